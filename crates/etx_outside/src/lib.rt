@@ -2,6 +2,7 @@
 #![tactic(auto)]
 
 mod memory;
+pub mod names;
 mod terminal;
 mod tree;
 
