@@ -1,0 +1,14 @@
+//! The data that every layer of `etx` speaks of: tokens, jobs, the ends of a job, and deeds, which are what a job does
+//! to the outside.
+#![tactic(auto)]
+
+mod deed;
+mod end;
+mod job;
+mod token;
+
+pub use deed::{Audience, Deed};
+pub use end::{End, FatalError, Status};
+pub use etx_lists::{Bytes, Listed, MOST};
+pub use job::{GREATEST_BUDGET, Job};
+pub use token::{NameId, PAR, Token, Tokens};
