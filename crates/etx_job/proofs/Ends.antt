@@ -1,0 +1,234 @@
+-- The chain's beginning and its end.
+use Rattle.std.proofs.Common.{◌≡◌, ◌≢◌, ◌⊎◌, inl, inr, ℕ, zero, suc, ◌+◌, ◌<◌, ◌≤◌, Bool, true, false, cond, nat_lt, List, [], ◌∷◌, ◌++◌, Option, Some, None, IsSome, refl, sym, ◌∙◌, ap, subst, append_assoc, arith}
+use Rattle.std.proofs.lemmas.List.{append-nil}
+use Rattle.std.proofs.lemmas.Bool.{cases_eq, cases_lt, cases_Bool}
+use Rattle.std.proofs.lemmas.Bool.Decides.{nat_tests}
+use Rattle.etx_outside.specs.Entries.{Files, Entry, Asked, History, files_after, asked_in, said}
+use Rattle.etx_outside.specs.Loading.{load_of}
+use Rattle.etx_outside.specs.Outside.{Outside, outside_of, after, Front}
+use Rattle.etx_outside.proofs.Outsides.{after-nil, after-append, front_behind, front_all, front_none, front_longer}
+use Rattle.etx_settle.specs.Deeds.{PenState, JournalState, entries, pen_after_all}
+use Rattle.etx_settle.specs.declared.deed.Deed.TheVariants.{Create}
+use Rattle.mach.specs.declared.plan.Mouth.{Mouth}
+use Rattle.mach.specs.Turn.{turned, turn_of, resumed, opened}
+use Rattle.mach.specs.Measure.{weight, Falls, Goes, SameMeasure}
+use Rattle.mach.proofs.Falling.{turn_goes, resumed_same}
+use Rattle.etx_job.specs.Chain.{Job, World, with_deeds, closing, ended, handled, step_open, step_from, step, turned_on, opening, chain, Going, Cut, Settled, IsMean, job_over}
+use Rattle.etx_job.specs.Status.{status_of}
+use Rattle.etx_job.specs.declared.job.Status.{Status}
+use Rattle.mach.specs.declared.plan.Yield.{Yield}
+use Rattle.mach.specs.declared.plan.Yield.TheVariants.{Quiet, Act, Ask, Done}
+use Rattle.mach.specs.declared.plan.End.{End}
+use Rattle.mach.specs.declared.plan.End.TheVariants.{Spent}
+use Rattle.etx_job.proofs.Turns.{lt_true, lt_false, world_of}
+
+pub cut_nothing : (job : Job) (first : Outside) → Cut job first first
+cut_nothing job first = record { turns = 0; front = front_none _ refl }
+
+pub going_starts : (job : Job) (first : Outside) {mouth : Mouth} {journal : JournalState}
+    → mouth ≡ opened job.main
+    → journal ≡ record { pen = record { log = job.log; at_start = true; created = [] }; waiting = Create job.log ∷ [] }
+    → Going job first mouth journal None first
+unfolding chain opening
+going_starts job first same_mouth same_journal = record {
+  turns = 0;
+  done = [];
+  at = λ i. world_of (sym same_mouth i) (sym same_journal i) [] None;
+  now_is = sym (after-nil first);
+}
+
+pub settled : {job : Job} {first now new : Outside} {mouth : Mouth} {journal : JournalState} {end : Option End} (e : End) → Going job first mouth journal end now → end ≡ Some e → new ≡ after (entries journal.pen journal.waiting) now → Settled job (Some e) first new
+settled {job} {first} {now} {new} {mouth} {journal} e g is wrote =
+    let end_is = ap (λ (w : World). w.end) g.at ∙ is in
+    record {
+      world = chain job g.turns;
+      mean = record { turns = g.turns; reached = refl; has_ended = subst (λ (o : Option End). IsSome o) (sym end_is) refl };
+      end_is = end_is;
+      now_is =
+          wrote
+          ∙ ap (after (entries journal.pen journal.waiting)) g.now_is
+          ∙ sym (after-append g.done (entries journal.pen journal.waiting) first)
+          ∙ ap (λ (w : World). after w.trace first) (sym g.at);
+    }
+
+-- how a world's trace goes on
+pub record Grows (old new : World) : Type 0 where
+  pub more : History
+  pub is : new.trace ≡ old.trace ++ more
+
+grows_not : (w : World) → Grows w w
+grows_not w = record { more = []; is = sym (append-nil w.trace) }
+
+module _ (job : Job) where
+  handled_grows : (w : World) (y : Yield) → Grows w (handled job w y)
+  handled_grows w Quiet = grows_not w
+  handled_grows w (Act d) = record { more = entries w.pen (d ∷ []); is = refl }
+  handled_grows w (Ask name) = record { more = Asked name ∷ []; is = refl }
+  handled_grows w (Done e) = record { more = entries w.pen closing; is = refl }
+
+  step_grows : (w : World) → Grows w (step job w)
+  unfolding step
+  step_grows w = go w.end
+    where
+      open_grows : Grows w (step_open job w)
+      open_grows = by (nat_lt job.budget (turn_of w.mouth).now.spent)
+        where
+          by : (b : Bool) → Grows w (cond b (ended Spent (turned_on w)) (handled job (turned_on w) (turn_of w.mouth).did))
+          by true = record { more = entries w.pen closing; is = refl }
+          by false = let h = handled_grows (turned_on w) (turn_of w.mouth).did in record { more = h.more; is = h.is }
+
+      go : (o : Option End) → Grows w (step_from job w o)
+      go None = open_grows
+      go (Some e) = grows_not w
+
+  chain_grows : (n m : ℕ) → m ≤ n → Grows (chain job m) (chain job n)
+  unfolding chain
+  chain_grows zero m le = let same : m ≡ zero = omega arith in subst (λ k. Grows (chain job k) (chain job zero)) (sym same) (grows_not _)
+  chain_grows (suc n) m le = elim (cases_eq m (suc n)) [
+    | inl same ↦ subst (λ k. Grows (chain job k) (chain job (suc n))) (sym same) (grows_not _)
+    | inr other ↦
+        let so_far = chain_grows n m (omega arith) in
+        let last = step_grows (chain job n) in
+        record {
+          more = so_far.more ++ last.more;
+          is = last.is ∙ ap (λ (h : History). h ++ last.more) so_far.is ∙ append_assoc (chain job m).trace so_far.more last.more;
+        }
+  ]
+
+  step_stays : (w : World) → IsSome w.end → step job w ≡ w
+  unfolding step
+  step_stays w has = go w.end has
+    where
+      go : (o : Option End) → IsSome o → step_from job w o ≡ w
+      go None none = cc
+      go (Some e) has = refl
+
+  chain_stays : (n m : ℕ) → m ≤ n → IsSome (chain job m).end → chain job n ≡ chain job m
+  unfolding chain
+  chain_stays zero m le has = let same : zero ≡ m = omega arith in ap (chain job) same
+  chain_stays (suc n) m le has = elim (cases_eq m (suc n)) [
+    | inl same ↦ ap (chain job) (sym same)
+    | inr other ↦
+        let stays = chain_stays n m (omega arith) has in
+        step_stays (chain job n) (subst (λ (w : World). IsSome w.end) (sym stays) has) ∙ stays
+  ]
+
+  -- what was cut off at any world of the chain is a front of the last one's trace
+  pub cut_of_mean : {first now : Outside} → Cut job first now → (w : World) → IsMean job w → Front w.trace first now
+  cut_of_mean {first} {now} cut w mean = subst (λ (v : World). Front v.trace first now) mean.reached (elim (cases_lt cut.turns mean.turns) [
+    | inl lt ↦
+        let grows = chain_grows mean.turns cut.turns (omega arith) in
+        subst (λ (h : History). Front h first now) (sym grows.is) (front_longer grows.more cut.front)
+    | inr ge ↦
+        let stays = chain_stays cut.turns mean.turns (omega arith) (subst (λ (v : World). IsSome v.end) (sym mean.reached) mean.has_ended) in
+        subst (λ (v : World). Front v.trace first now) stays cut.front
+  ])
+
+  -- there is only one last world
+  pub one_mean : (v w : World) → IsMean job v → IsMean job w → v ≡ w
+  one_mean v w a b = sym a.reached ∙ (elim (cases_lt a.turns b.turns) [
+    | inl lt ↦ sym (chain_stays b.turns a.turns (omega arith) (subst (λ (u : World). IsSome u.end) (sym a.reached) a.has_ended))
+    | inr ge ↦ chain_stays a.turns b.turns (omega arith) (subst (λ (u : World). IsSome u.end) (sym b.reached) b.has_ended)
+  ]) ∙ b.reached
+
+  -- ---- each chain ends
+
+  -- a step ends, or it is within the budget and the mouth falls
+  abbrev Going_on : Mouth → World → Type 0
+  Going_on old w = IsSome w.end ⊎ ((w.mouth.spent ≤ job.budget) × Falls old w.mouth)
+
+  falls_same : (old mid new : Mouth) → SameMeasure mid new → Falls old mid → Falls old new
+  falls_same old mid new same f = elim f [
+    | inl more ↦ inl (omega (arith, same.spent, more))
+    | inr less ↦ inr (omega (arith, same.spent, less.0), omega (arith, same.weight, less.1))
+  ]
+
+  handled_falls : (old : Mouth) (w : World) (y : Yield) → w.mouth.spent ≤ job.budget → Goes old (turned w.mouth y) → Going_on old (handled job w y)
+  handled_falls old w Quiet le goes = elim goes [ inl never ↦ absurd never | inr f ↦ inr (le, f) ]
+  handled_falls old w (Act d) le goes = elim goes [ inl never ↦ absurd never | inr f ↦ inr (le, f) ]
+  handled_falls old w (Ask name) le goes =
+      let loaded = load_of (files_after w.trace job.files name) in
+      let same = resumed_same w.mouth loaded in
+      elim goes [ inl never ↦ absurd never | inr f ↦ inr (omega (arith, same.spent, le), falls_same old w.mouth (resumed w.mouth loaded) same f) ]
+  handled_falls old w (Done e) le goes = inl refl
+
+  step_falls : (w : World) → w.end ≡ None → Going_on w.mouth (step job w)
+  unfolding step
+  step_falls w none = subst (λ (o : Option End). Going_on w.mouth (step_from job w o)) (sym none) (elim (cases_lt job.budget (turn_of w.mouth).now.spent) [
+    | inl lt ↦
+        subst
+        (λ b. Going_on w.mouth (cond b (ended Spent (turned_on w)) (handled job (turned_on w) (turn_of w.mouth).did)))
+        (sym (lt_true job.budget (turn_of w.mouth).now.spent lt))
+        (inl refl)
+    | inr ge ↦
+        subst
+        (λ b. Going_on w.mouth (cond b (ended Spent (turned_on w)) (handled job (turned_on w) (turn_of w.mouth).did)))
+        (sym (lt_false job.budget (turn_of w.mouth).now.spent ge))
+        (handled_falls w.mouth (turned_on w) (turn_of w.mouth).did ge (turn_goes w.mouth))
+  ])
+
+  cases_end : (o : Option End) → (o ≡ None) ⊎ IsSome o
+  cases_end None = inl refl
+  cases_end (Some e) = inr refl
+
+  abbrev Last : Type 0
+  Last = (m : ℕ) × IsSome (chain job m).end
+
+  -- turns that charge nothing come to a charge or an end
+  free_ends : (s : ℕ) → ((m : ℕ) → s < (chain job m).mouth.spent → (chain job m).mouth.spent ≤ job.budget → Last) → (i n : ℕ) → (chain job n).mouth.spent ≡ s → weight (chain job n).mouth ≤ i → Last
+  unfolding chain
+  free_ends s next zero n same light = elim (cases_end (chain job n).end) [
+    | inl none ↦ elim (step_falls (chain job n) none) [
+        | inl has ↦ (suc n, has)
+        | inr on ↦ elim on.1 [ inl more ↦ next (suc n) (omega (arith, same, more)) on.0 | inr less ↦ absurd (omega (arith, less.1, light)) ]
+      ]
+    | inr has ↦ (n, has)
+  ]
+  free_ends s next (suc i) n same light = elim (cases_end (chain job n).end) [
+    | inl none ↦ elim (step_falls (chain job n) none) [
+        | inl has ↦ (suc n, has)
+        | inr on ↦ elim on.1 [ inl more ↦ next (suc n) (omega (arith, same, more)) on.0 | inr less ↦ free_ends s next i (suc n) (omega (arith, same, less.0)) (omega (arith, less.1, light)) ]
+      ]
+    | inr has ↦ (n, has)
+  ]
+
+  ends_from : (k n : ℕ) → job.budget ≤ (chain job n).mouth.spent + k → Last
+  ends_from zero n near = free_ends (chain job n).mouth.spent (λ m more le. absurd (omega (arith, near, more, le))) (weight (chain job n).mouth) n refl (omega arith)
+  ends_from (suc k) n near = free_ends (chain job n).mouth.spent (λ m more le. ends_from k m (omega (arith, near, more))) (weight (chain job n).mouth) n refl (omega arith)
+
+  -- the chain has a last world
+  pub mean_of : (w : World) × IsMean job w
+  mean_of = let end = ends_from job.budget 0 (omega arith) in (chain job end.0, record { turns = end.0; reached = refl; has_ended = end.1 })
+
+-- ---- what a caller sees
+
+module _ {F T : Type 0} (files : F → Files) (asked : F → List (List ℕ)) (text : T → List ℕ) (main budget : ℕ) (old new : F) (before now : T) where
+  pub whole_for : (e : End) (s : Status) → Settled (job_over main budget (outside_of files asked text old before).files) (Some e) (outside_of files asked text old before) (outside_of files asked text new now) → s ≡ status_of (Some e)
+      → (w : World) × IsMean (job_over main budget (files old)) w × (s ≡ status_of w.end) × (files new ≡ files_after w.trace (files old)) × (asked new ≡ asked old ++ asked_in w.trace) × (text now ≡ text before ++ said w.trace)
+  unfolding outside_of after
+  whole_for e s settled is = (
+    settled.world,
+    settled.mean,
+    is ∙ ap status_of (sym settled.end_is),
+    ap (λ (o : Outside). o.files) settled.now_is,
+    ap (λ (o : Outside). o.asked) settled.now_is,
+    ap (λ (o : Outside). o.text) settled.now_is,
+  )
+
+  pub front_for : Cut (job_over main budget (outside_of files asked text old before).files) (outside_of files asked text old before) (outside_of files asked text new now)
+      → (w : World) × IsMean (job_over main budget (files old)) w × ((h : History) × (rest : History) × (h ++ rest ≡ w.trace) × (files new ≡ files_after h (files old)) × (asked new ≡ asked old ++ asked_in h) × (text now ≡ text before ++ said h))
+  unfolding outside_of after
+  front_for cut =
+      let mean = mean_of (job_over main budget (files old)) in
+      let front = cut_of_mean (job_over main budget (files old)) cut mean.0 mean.1 in (
+        mean.0,
+        mean.1,
+        (
+          front.written,
+          front.rest,
+          front.parts,
+          ap (λ (o : Outside). o.files) front.now,
+          ap (λ (o : Outside). o.asked) front.now,
+          ap (λ (o : Outside). o.text) front.now,
+        ),
+      )

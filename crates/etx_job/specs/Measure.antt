@@ -1,0 +1,38 @@
+-- What each turn makes smaller, so that each job ends: a turn that takes no step makes the mouth's weight less.
+use Rattle.std.specs.Prelude.{◌≡◌, ℕ, ◌<◌, ◌≤◌, ◌⊎◌}
+use Rattle.etx_job.specs.Turn.{Turned}
+use Rattle.etx_job.specs.declared.mouth.Mouth.{Mouth}
+use Rattle.etx_job.specs.declared.mouth.Source.{Source}
+use Rattle.etx_job.specs.declared.mouth.Source.TheVariants.{Unasked, Awaited, Absent, Refused, Reading}
+use Rattle.etx_job.specs.declared.mouth.Yield.{Yield}
+use Rattle.etx_job.specs.declared.mouth.Yield.TheVariants.{Quiet, Act, Load, Done}
+
+-- how many turns a source may give before a token is got
+abbrev pub turns_before : Source → ℕ
+turns_before (Unasked name) = 3
+turns_before (Awaited name) = 2
+turns_before (Absent name) = 1
+turns_before Refused = 0
+turns_before (Reading input) = 0
+
+abbrev pub weight : Mouth → ℕ
+weight v = turns_before v.source
+
+-- a step was taken, or the weight fell
+abbrev pub Falls : Mouth → Mouth → Type 0
+Falls old new = (old.spent < new.spent) ⊎ ((new.spent ≡ old.spent) × (weight new < weight old))
+
+abbrev pub Ends : Yield → Type 0
+Ends Quiet = ⊥
+Ends (Act d) = ⊥
+Ends (Load name) = ⊥
+Ends (Done e) = Unit {0}
+
+-- a turn ends the job, takes a step, or makes the weight less
+abbrev pub Goes : Mouth → Turned → Type 0
+Goes old t = Ends t.did ⊎ Falls old t.now
+
+-- no step was taken, and the weight is no more than it was
+pub record IsNoMore (old new : Mouth) : Type 0 where
+  pub spent : new.spent ≡ old.spent
+  pub weight : weight new ≤ weight old

@@ -1,0 +1,205 @@
+//! The driver: it makes the turns of a job's mouth, lets what they yield wait in a journal, and writes what waits before
+//! anything is asked for and at the end.
+ghost use Rattle.std.specs.Prelude.{◌≡◌, ◌<◌, ◌≤◌, ◌+◌, ◌^◌, ◌++◌, [], ◌∷◌, List, ℕ, Option, Some, None, IfOk, OnOk, OnErr, IsErrOf};
+ghost use Rattle.etx_outside.specs.Faults.{Rose};
+ghost use Rattle.etx_outside.specs.Entries.{Asked};
+ghost use Rattle.etx_outside.specs.Loading.{load_of};
+ghost use Rattle.etx_outside.specs.Outside.{Outside, outside_of, after, Front, Faults, faults_of, NoneFell, WriteRose};
+ghost use Rattle.etx_settle.specs.Deeds.{JournalState, AllOpen, first_pen};
+ghost use Rattle.etx_job.specs.Measure.{Falls, IsNoMore};
+ghost use Rattle.etx_job.specs.Words.{log_name};
+ghost use Rattle.etx_job.specs.Chain.{Job, closing, last_line, printed};
+ghost use Rattle.etx_job.specs.Going.{more_waiting, IsFor, Going, AfterTurn, Asks, AtAsk, Cut, Settled};
+
+use crate::fault::Fault;
+use crate::mouth::{Mouth, Yield};
+use crate::words::name_log;
+use etx_lists::Bytes;
+use etx_matter::{Audience, Deed, End};
+use etx_outside::{Loaded, Terminal, Tree, TreeFault};
+use etx_settle::Journal;
+use std::alloc::{AllocError, Global};
+
+const BOTH: Audience = Audience::LogAndTerminal;
+
+fn print(alloc: Global, text: &[u8], journal: &mut Journal) -> Result<(), AllocError>
+    ensures { OnOk result (journal.new ≡ more_waiting journal.old (printed text.now ∷ [])) }
+{
+    let bytes = Bytes::from_slice(alloc, text)?;
+    journal.push(Deed::Text { bytes, audience: BOTH })
+}
+
+/// The last line of the transcript.
+fn print_last_line(alloc: Global, journal: &mut Journal) -> Result<(), AllocError>
+    ensures { OnOk result (journal.new ≡ more_waiting journal.old last_line) }
+{
+    journal.push(Deed::Fresh(BOTH))?;
+    print(alloc, b"No pages of output.\n", journal)
+}
+
+/// Lets what an end adds wait, where the line that was read last has this number.
+fn close(alloc: Global, end: End, line: u32, journal: &mut Journal) -> Result<(), AllocError>
+    ensures { OnOk result (journal.new ≡ more_waiting journal.old (closing end line)) }
+{
+    match end {
+        End::Ended => {}
+        End::Fatal(why) => {
+            let text = Bytes::from_slice(alloc, b"Emergency stop")?;
+            journal.push(Deed::Error { text, line, audience: BOTH })?;
+            let mut reason = Bytes::from_slice(alloc, b"*** (")?;
+            reason.extend_from_slice(why.text())?;
+            reason.extend_from_slice(b")\n")?;
+            journal.push(Deed::Text { bytes: reason, audience: BOTH })?;
+        }
+        End::Spent => {
+            journal.push(Deed::Fresh(BOTH))?;
+            print(alloc, b"*** (step budget spent)\n", journal)?;
+        }
+        End::Unbuilt => {
+            journal.push(Deed::Fresh(BOTH))?;
+            print(alloc, b"*** (not built yet)\n", journal)?;
+        }
+    }
+    print_last_line(alloc, journal)
+}
+
+/// Asks for a name. The terminal stays as it is.
+fn load<F: Tree, T: Terminal>(
+    alloc: Global,
+    name: &[u8],
+    tree: &mut F,
+    terminal: &T,
+) -> Result<Loaded, TreeFault>
+    ensures answer { IfOk result (λ loaded. F.tells → loaded ≡ load_of ((outside_of F.files F.asked T.text tree.old terminal.now).files name.now)) }
+    ensures ok { OnOk result (F.tells → outside_of F.files F.asked T.text tree.new terminal.now ≡ after (Asked name.now ∷ []) (outside_of F.files F.asked T.text tree.old terminal.now)) }
+    ensures failed { IsErrOf result TreeFault.Failed → F.tells → outside_of F.files F.asked T.text tree.new terminal.now ≡ after (Asked name.now ∷ []) (outside_of F.files F.asked T.text tree.old terminal.now) }
+    ensures front { F.tells → Front (Asked name.now ∷ []) (outside_of F.files F.asked T.text tree.old terminal.now) (outside_of F.files F.asked T.text tree.new terminal.now) }
+    ensures open { (q : List ℕ) → F.is_open tree.old q → F.is_open tree.new q }
+    ensures later { NoneFell (faults_of F.faults T.faults tree.old terminal.now) (faults_of F.faults T.faults tree.new terminal.now) }
+    ensures cause { IsErrOf result TreeFault.Failed → Rose (faults_of F.faults T.faults tree.old terminal.now).reads (faults_of F.faults T.faults tree.new terminal.now).reads }
+{
+    match tree.load(alloc, name) {
+        Ok(loaded) => Ok(loaded),
+        Err(TreeFault::Failed) => Err(TreeFault::Failed),
+        Err(TreeFault::OutOfMemory) => Err(TreeFault::OutOfMemory),
+    }
+}
+
+/// Writes what waits, and asks for a name.
+fn ask<F: Tree, T: Terminal>(
+    alloc: Global,
+    name: &[u8],
+    mouth: &mut Mouth,
+    journal: &mut Journal,
+    tree: &mut F,
+    terminal: &mut T,
+) -> Result<(), Fault>
+    requires { AllOpen (F.is_open tree.old) journal.old.pen.created }
+    ensures going { OnOk result (F.tells → T.tells → (job : Job) (first : Outside) → IsFor job first →
+        Asks job first mouth.old journal.old name.now (outside_of F.files F.asked T.text tree.old terminal.old)
+        → Going job first mouth.new journal.new (outside_of F.files F.asked T.text tree.new terminal.new)) }
+    ensures cut { F.tells → T.tells → (job : Job) (first : Outside) → IsFor job first →
+        Asks job first mouth.old journal.old name.now (outside_of F.files F.asked T.text tree.old terminal.old)
+        → Cut job first (outside_of F.files F.asked T.text tree.new terminal.new) }
+    ensures read_at { IsErrOf result Fault.ReadFault → F.tells → T.tells → (job : Job) (first : Outside) →
+        Asks job first mouth.old journal.old name.now (outside_of F.files F.asked T.text tree.old terminal.old)
+        → AtAsk job first (outside_of F.files F.asked T.text tree.new terminal.new) }
+    ensures opened { OnOk result (AllOpen (F.is_open tree.new) journal.new.pen.created) }
+    ensures no_more { OnOk result (IsNoMore mouth.old mouth.new) }
+    ensures later { NoneFell (faults_of F.faults T.faults tree.old terminal.old) (faults_of F.faults T.faults tree.new terminal.new) }
+    ensures read_cause { IsErrOf result Fault.ReadFault → Rose (faults_of F.faults T.faults tree.old terminal.old).reads (faults_of F.faults T.faults tree.new terminal.new).reads }
+    ensures write_cause { IsErrOf result Fault.WriteFault → WriteRose (faults_of F.faults T.faults tree.old terminal.old) (faults_of F.faults T.faults tree.new terminal.new) }
+{
+    journal.flush(tree, terminal)?;
+    let loaded = match load(alloc, name, tree, terminal) {
+        Ok(loaded) => loaded,
+        Err(TreeFault::Failed) => return Err(Fault::ReadFault),
+        Err(TreeFault::OutOfMemory) => return Err(Fault::OutOfMemory),
+    };
+    mouth.resume(loaded);
+    Ok(())
+}
+
+/// Makes the next step of the chain: a turn of the mouth, with what it yields. After an `Err` nothing goes on.
+fn turn<F: Tree, T: Terminal>(
+    alloc: Global,
+    budget: u64,
+    mouth: &mut Mouth,
+    journal: &mut Journal,
+    tree: &mut F,
+    terminal: &mut T,
+) -> Result<Option<End>, Fault>
+    requires open { AllOpen (F.is_open tree.old) journal.old.pen.created }
+    requires room { mouth.old.spent + 1 < 2 ^ 64 }
+    ensures going { IfOk result (λ end. F.tells → T.tells → (job : Job) (first : Outside) → IsFor job first → job.budget ≡ budget →
+        Going job first mouth.old journal.old (outside_of F.files F.asked T.text tree.old terminal.old)
+        → AfterTurn end job first mouth.new journal.new (outside_of F.files F.asked T.text tree.new terminal.new)) }
+    ensures cut { F.tells → T.tells → (job : Job) (first : Outside) → IsFor job first → job.budget ≡ budget →
+        Going job first mouth.old journal.old (outside_of F.files F.asked T.text tree.old terminal.old)
+        → Cut job first (outside_of F.files F.asked T.text tree.new terminal.new) }
+    ensures read_at { IsErrOf result Fault.ReadFault → F.tells → T.tells → (job : Job) (first : Outside) → job.budget ≡ budget →
+        Going job first mouth.old journal.old (outside_of F.files F.asked T.text tree.old terminal.old)
+        → AtAsk job first (outside_of F.files F.asked T.text tree.new terminal.new) }
+    ensures opened { OnOk result (AllOpen (F.is_open tree.new) journal.new.pen.created) }
+    ensures falls { IfOk result (λ end. end ≡ None → (mouth.new.spent ≤ budget) × Falls mouth.old mouth.new) }
+    ensures later { NoneFell (faults_of F.faults T.faults tree.old terminal.old) (faults_of F.faults T.faults tree.new terminal.new) }
+    ensures read_cause { IsErrOf result Fault.ReadFault → Rose (faults_of F.faults T.faults tree.old terminal.old).reads (faults_of F.faults T.faults tree.new terminal.new).reads }
+    ensures write_cause { IsErrOf result Fault.WriteFault → WriteRose (faults_of F.faults T.faults tree.old terminal.old) (faults_of F.faults T.faults tree.new terminal.new) }
+{
+    let did = mouth.turn(alloc)?;
+    if mouth.spent > budget {
+        close(alloc, End::Spent, 0, journal)?;
+        return Ok(Some(End::Spent));
+    }
+    match did {
+        Yield::Quiet => Ok(None),
+        Yield::Act(deed) => {
+            journal.push(deed)?;
+            Ok(None)
+        }
+        Yield::Load(name) => {
+            ask(alloc, name.as_slice(), mouth, journal, tree, terminal)?;
+            Ok(None)
+        }
+        Yield::Done(end) => {
+            close(alloc, end, mouth.line(), journal)?;
+            Ok(Some(end))
+        }
+    }
+}
+
+/// Runs a job to its end: from the creation of its log to the last byte of its transcript.
+pub fn run<F: Tree, T: Terminal>(
+    alloc: Global,
+    name: Bytes,
+    budget: u64,
+    tree: &mut F,
+    terminal: &mut T,
+) -> Result<End, Fault>
+    requires { budget ≤ 1099511627776 }
+    ensures whole { IfOk result (λ end. F.tells → T.tells → (job : Job) → IsFor job (outside_of F.files F.asked T.text tree.old terminal.old) → job.name ≡ name → job.budget ≡ budget →
+        Settled job end (outside_of F.files F.asked T.text tree.old terminal.old) (outside_of F.files F.asked T.text tree.new terminal.new)) }
+    ensures cut { F.tells → T.tells → (job : Job) → IsFor job (outside_of F.files F.asked T.text tree.old terminal.old) → job.name ≡ name → job.budget ≡ budget →
+        Cut job (outside_of F.files F.asked T.text tree.old terminal.old) (outside_of F.files F.asked T.text tree.new terminal.new) }
+    ensures read_at { IsErrOf result Fault.ReadFault → F.tells → T.tells → (job : Job) → IsFor job (outside_of F.files F.asked T.text tree.old terminal.old) → job.name ≡ name → job.budget ≡ budget →
+        AtAsk job (outside_of F.files F.asked T.text tree.old terminal.old) (outside_of F.files F.asked T.text tree.new terminal.new) }
+    ensures later { NoneFell (faults_of F.faults T.faults tree.old terminal.old) (faults_of F.faults T.faults tree.new terminal.new) }
+    ensures read_cause { IsErrOf result Fault.ReadFault → Rose (faults_of F.faults T.faults tree.old terminal.old).reads (faults_of F.faults T.faults tree.new terminal.new).reads }
+    ensures write_cause { IsErrOf result Fault.WriteFault → WriteRose (faults_of F.faults T.faults tree.old terminal.old) (faults_of F.faults T.faults tree.new terminal.new) }
+{
+    let mut journal = Journal::new(alloc);
+    journal.push(Deed::Create(name_log(alloc, name.as_slice())?))?;
+    let mut mouth = Mouth::new(name);
+    'steps: loop {
+        let before = mouth.spent;
+        'free: loop {
+            if let Some(end) = turn(alloc, budget, &mut mouth, &mut journal, tree, terminal)? {
+                journal.flush(tree, terminal)?;
+                return Ok(end);
+            }
+            if mouth.spent > before {
+                break;
+            }
+        }
+    }
+}
