@@ -1,34 +1,33 @@
 -- The chain's beginning and its end.
-use Rattle.std.proofs.Common.{◌≡◌, ◌≢◌, ◌⊎◌, inl, inr, ℕ, zero, suc, ◌+◌, ◌<◌, ◌≤◌, Bool, true, false, cond, nat_lt, List, [], ◌∷◌, ◌++◌, Option, Some, None, IsSome, refl, sym, ◌∙◌, ap, subst, append_assoc, arith}
+use Rattle.std.proofs.Common.{◌≡◌, ◌⊎◌, inl, inr, ℕ, zero, suc, ◌+◌, ◌<◌, ◌≤◌, Bool, true, false, cond, nat_lt, List, [], ◌∷◌, ◌++◌, Option, Some, None, IsSome, refl, sym, ◌∙◌, ap, subst, append_assoc, arith}
 use Rattle.std.proofs.lemmas.List.{append-nil}
-use Rattle.std.proofs.lemmas.Bool.{cases_eq, cases_lt, cases_Bool}
-use Rattle.std.proofs.lemmas.Bool.Decides.{nat_tests}
-use Rattle.etx_outside.specs.Entries.{Files, Entry, Asked, History, files_after, asked_in, said}
+use Rattle.std.proofs.lemmas.Bool.{cases_eq, cases_lt}
+use Rattle.etx_outside.specs.Entries.{Files, Asked, History, files_after}
 use Rattle.etx_outside.specs.Loading.{load_of}
-use Rattle.etx_outside.specs.Outside.{Outside, outside_of, after, Front}
-use Rattle.etx_outside.proofs.Outsides.{after-nil, after-append, front_behind, front_all, front_none, front_longer}
-use Rattle.etx_settle.specs.Deeds.{PenState, JournalState, entries, pen_after_all}
-use Rattle.etx_settle.specs.declared.deed.Deed.TheVariants.{Create}
-use Rattle.mach.specs.declared.plan.Mouth.{Mouth}
-use Rattle.mach.specs.Turn.{turned, turn_of, resumed, opened}
-use Rattle.mach.specs.Measure.{weight, Falls, Goes, SameMeasure}
-use Rattle.mach.proofs.Falling.{turn_goes, resumed_same}
-use Rattle.etx_job.specs.Chain.{Job, World, with_deeds, closing, ended, handled, step_open, step_from, step, turned_on, opening, chain, Going, Cut, Settled, IsMean, job_over}
-use Rattle.etx_job.specs.Status.{status_of}
-use Rattle.etx_job.specs.declared.job.Status.{Status}
-use Rattle.mach.specs.declared.plan.Yield.{Yield}
-use Rattle.mach.specs.declared.plan.Yield.TheVariants.{Quiet, Act, Ask, Done}
-use Rattle.mach.specs.declared.plan.End.{End}
-use Rattle.mach.specs.declared.plan.End.TheVariants.{Spent}
-use Rattle.etx_job.proofs.Turns.{lt_true, lt_false, world_of}
+use Rattle.etx_outside.specs.Outside.{Outside, after, Front}
+use Rattle.etx_outside.proofs.Outsides.{after-nil, after-append, front_none, front_longer}
+use Rattle.etx_settle.specs.Deeds.{JournalState, first_pen, entries}
+use Rattle.etx_matter.specs.declared.deed.Deed.TheVariants.{Create}
+use Rattle.etx_matter.specs.declared.end.End.{End}
+use Rattle.etx_matter.specs.declared.end.End.TheVariants.{Spent}
+use Rattle.etx_job.specs.declared.mouth.Mouth.{Mouth}
+use Rattle.etx_job.specs.declared.mouth.Yield.{Yield}
+use Rattle.etx_job.specs.declared.mouth.Yield.TheVariants.{Quiet, Act, Load, Done}
+use Rattle.etx_job.specs.Turn.{turned, turn_of, resumed, opened, line_of}
+use Rattle.etx_job.specs.Measure.{weight, Falls, Goes, IsNoMore}
+use Rattle.etx_job.specs.Words.{log_name}
+use Rattle.etx_job.specs.Chain.{Job, World, closing, ended, handled, step_open, step_from, step, turned_on, opening, chain, IsMean}
+use Rattle.etx_job.specs.Going.{world_of, Going, Over, Cut, Settled}
+use Rattle.etx_job.proofs.Falling.{turn_goes, resumed_no_more}
+use Rattle.etx_job.proofs.Turns.{lt_true, lt_false}
 
 pub cut_nothing : (job : Job) (first : Outside) → Cut job first first
 cut_nothing job first = record { turns = 0; front = front_none _ refl }
 
 pub going_starts : (job : Job) (first : Outside) {mouth : Mouth} {journal : JournalState}
-    → mouth ≡ opened job.main
-    → journal ≡ record { pen = record { log = job.log; at_start = true; created = [] }; waiting = Create job.log ∷ [] }
-    → Going job first mouth journal None first
+    → mouth ≡ opened job.name
+    → journal ≡ record { pen = first_pen; waiting = Create (log_name job.name) ∷ [] }
+    → Going job first mouth journal first
 unfolding chain opening
 going_starts job first same_mouth same_journal = record {
   turns = 0;
@@ -37,19 +36,17 @@ going_starts job first same_mouth same_journal = record {
   now_is = sym (after-nil first);
 }
 
-pub settled : {job : Job} {first now new : Outside} {mouth : Mouth} {journal : JournalState} {end : Option End} (e : End) → Going job first mouth journal end now → end ≡ Some e → new ≡ after (entries journal.pen journal.waiting) now → Settled job (Some e) first new
-settled {job} {first} {now} {new} {mouth} {journal} e g is wrote =
-    let end_is = ap (λ (w : World). w.end) g.at ∙ is in
-    record {
-      world = chain job g.turns;
-      mean = record { turns = g.turns; reached = refl; has_ended = subst (λ (o : Option End). IsSome o) (sym end_is) refl };
-      end_is = end_is;
-      now_is =
-          wrote
-          ∙ ap (after (entries journal.pen journal.waiting)) g.now_is
-          ∙ sym (after-append g.done (entries journal.pen journal.waiting) first)
-          ∙ ap (λ (w : World). after w.trace first) (sym g.at);
-    }
+pub settled : {job : Job} {first now new : Outside} {journal : JournalState} {e : End} → Over job first journal e now → new ≡ after (entries journal.pen journal.waiting) now → Settled job e first new
+settled {job} {first} {now} {new} {journal} {e} o wrote = record {
+  world = chain job o.turns;
+  mean = record { turns = o.turns; reached = refl; has_ended = subst (λ (w : World). IsSome w.end) (sym o.at) refl };
+  end_is = ap (λ (w : World). w.end) o.at;
+  now_is =
+      wrote
+      ∙ ap (after (entries journal.pen journal.waiting)) o.now_is
+      ∙ sym (after-append o.done (entries journal.pen journal.waiting) first)
+      ∙ ap (λ (w : World). after w.trace first) (sym o.at);
+}
 
 -- how a world's trace goes on
 pub record Grows (old new : World) : Type 0 where
@@ -63,8 +60,8 @@ module _ (job : Job) where
   handled_grows : (w : World) (y : Yield) → Grows w (handled job w y)
   handled_grows w Quiet = grows_not w
   handled_grows w (Act d) = record { more = entries w.pen (d ∷ []); is = refl }
-  handled_grows w (Ask name) = record { more = Asked name ∷ []; is = refl }
-  handled_grows w (Done e) = record { more = entries w.pen closing; is = refl }
+  handled_grows w (Load name) = record { more = Asked name ∷ []; is = refl }
+  handled_grows w (Done e) = record { more = entries w.pen (closing e (line_of w.mouth)); is = refl }
 
   step_grows : (w : World) → Grows w (step job w)
   unfolding step
@@ -73,8 +70,8 @@ module _ (job : Job) where
       open_grows : Grows w (step_open job w)
       open_grows = by (nat_lt job.budget (turn_of w.mouth).now.spent)
         where
-          by : (b : Bool) → Grows w (cond b (ended Spent (turned_on w)) (handled job (turned_on w) (turn_of w.mouth).did))
-          by true = record { more = entries w.pen closing; is = refl }
+          by : (b : Bool) → Grows w (cond b (ended Spent w) (handled job (turned_on w) (turn_of w.mouth).did))
+          by true = record { more = entries w.pen (closing Spent (line_of w.mouth)); is = refl }
           by false = let h = handled_grows (turned_on w) (turn_of w.mouth).did in record { more = h.more; is = h.is }
 
       go : (o : Option End) → Grows w (step_from job w o)
@@ -137,8 +134,8 @@ module _ (job : Job) where
   abbrev Going_on : Mouth → World → Type 0
   Going_on old w = IsSome w.end ⊎ ((w.mouth.spent ≤ job.budget) × Falls old w.mouth)
 
-  falls_same : (old mid new : Mouth) → SameMeasure mid new → Falls old mid → Falls old new
-  falls_same old mid new same f = elim f [
+  falls_no_more : (old mid new : Mouth) → IsNoMore mid new → Falls old mid → Falls old new
+  falls_no_more old mid new same f = elim f [
     | inl more ↦ inl (omega (arith, same.spent, more))
     | inr less ↦ inr (omega (arith, same.spent, less.0), omega (arith, same.weight, less.1))
   ]
@@ -146,10 +143,10 @@ module _ (job : Job) where
   handled_falls : (old : Mouth) (w : World) (y : Yield) → w.mouth.spent ≤ job.budget → Goes old (turned w.mouth y) → Going_on old (handled job w y)
   handled_falls old w Quiet le goes = elim goes [ inl never ↦ absurd never | inr f ↦ inr (le, f) ]
   handled_falls old w (Act d) le goes = elim goes [ inl never ↦ absurd never | inr f ↦ inr (le, f) ]
-  handled_falls old w (Ask name) le goes =
+  handled_falls old w (Load name) le goes =
       let loaded = load_of (files_after w.trace job.files name) in
-      let same = resumed_same w.mouth loaded in
-      elim goes [ inl never ↦ absurd never | inr f ↦ inr (omega (arith, same.spent, le), falls_same old w.mouth (resumed w.mouth loaded) same f) ]
+      let same = resumed_no_more w.mouth loaded in
+      elim goes [ inl never ↦ absurd never | inr f ↦ inr (omega (arith, same.spent, le), falls_no_more old w.mouth (resumed w.mouth loaded) same f) ]
   handled_falls old w (Done e) le goes = inl refl
 
   step_falls : (w : World) → w.end ≡ None → Going_on w.mouth (step job w)
@@ -157,12 +154,12 @@ module _ (job : Job) where
   step_falls w none = subst (λ (o : Option End). Going_on w.mouth (step_from job w o)) (sym none) (elim (cases_lt job.budget (turn_of w.mouth).now.spent) [
     | inl lt ↦
         subst
-        (λ b. Going_on w.mouth (cond b (ended Spent (turned_on w)) (handled job (turned_on w) (turn_of w.mouth).did)))
+        (λ b. Going_on w.mouth (cond b (ended Spent w) (handled job (turned_on w) (turn_of w.mouth).did)))
         (sym (lt_true job.budget (turn_of w.mouth).now.spent lt))
         (inl refl)
     | inr ge ↦
         subst
-        (λ b. Going_on w.mouth (cond b (ended Spent (turned_on w)) (handled job (turned_on w) (turn_of w.mouth).did)))
+        (λ b. Going_on w.mouth (cond b (ended Spent w) (handled job (turned_on w) (turn_of w.mouth).did)))
         (sym (lt_false job.budget (turn_of w.mouth).now.spent ge))
         (handled_falls w.mouth (turned_on w) (turn_of w.mouth).did ge (turn_goes w.mouth))
   ])
@@ -199,36 +196,3 @@ module _ (job : Job) where
   -- the chain has a last world
   pub mean_of : (w : World) × IsMean job w
   mean_of = let end = ends_from job.budget 0 (omega arith) in (chain job end.0, record { turns = end.0; reached = refl; has_ended = end.1 })
-
--- ---- what a caller sees
-
-module _ {F T : Type 0} (files : F → Files) (asked : F → List (List ℕ)) (text : T → List ℕ) (main budget : ℕ) (old new : F) (before now : T) where
-  pub whole_for : (e : End) (s : Status) → Settled (job_over main budget (outside_of files asked text old before).files) (Some e) (outside_of files asked text old before) (outside_of files asked text new now) → s ≡ status_of (Some e)
-      → (w : World) × IsMean (job_over main budget (files old)) w × (s ≡ status_of w.end) × (files new ≡ files_after w.trace (files old)) × (asked new ≡ asked old ++ asked_in w.trace) × (text now ≡ text before ++ said w.trace)
-  unfolding outside_of after
-  whole_for e s settled is = (
-    settled.world,
-    settled.mean,
-    is ∙ ap status_of (sym settled.end_is),
-    ap (λ (o : Outside). o.files) settled.now_is,
-    ap (λ (o : Outside). o.asked) settled.now_is,
-    ap (λ (o : Outside). o.text) settled.now_is,
-  )
-
-  pub front_for : Cut (job_over main budget (outside_of files asked text old before).files) (outside_of files asked text old before) (outside_of files asked text new now)
-      → (w : World) × IsMean (job_over main budget (files old)) w × ((h : History) × (rest : History) × (h ++ rest ≡ w.trace) × (files new ≡ files_after h (files old)) × (asked new ≡ asked old ++ asked_in h) × (text now ≡ text before ++ said h))
-  unfolding outside_of after
-  front_for cut =
-      let mean = mean_of (job_over main budget (files old)) in
-      let front = cut_of_mean (job_over main budget (files old)) cut mean.0 mean.1 in (
-        mean.0,
-        mean.1,
-        (
-          front.written,
-          front.rest,
-          front.parts,
-          ap (λ (o : Outside). o.files) front.now,
-          ap (λ (o : Outside). o.asked) front.now,
-          ap (λ (o : Outside). o.text) front.now,
-        ),
-      )

@@ -1,27 +1,23 @@
--- One turn of the chain, as the machine and the journal make it.
-use Rattle.std.proofs.Common.{◌≡◌, ℕ, zero, suc, ◌<◌, ◌≤◌, Bool, true, false, cond, nat_lt, List, [], ◌∷◌, ◌++◌, Option, Some, None, refl, sym, ◌∙◌, ap, subst, append_assoc}
+-- One step of the chain, as the mouth and the journal make it.
+use Rattle.std.proofs.Common.{◌≡◌, ℕ, zero, suc, ◌<◌, ◌≤◌, Bool, true, false, cond, nat_lt, List, [], ◌∷◌, ◌++◌, Option, Some, None, refl, sym, ◌∙◌, ap, subst, append_assoc, arith}
 use Rattle.std.proofs.lemmas.List.{append-nil}
 use Rattle.std.proofs.lemmas.Bool.Decides.{nat_tests}
-use Rattle.std.proofs.Common.{arith}
-use Rattle.etx_outside.specs.Entries.{Files, Entry, Asked, History, files_after}
+use Rattle.etx_outside.specs.Entries.{Files, Asked, History, files_after}
 use Rattle.etx_outside.specs.Outside.{Outside, after, Front}
 use Rattle.etx_outside.specs.Loading.{load_of}
 use Rattle.etx_outside.specs.declared.tree.Loaded.{Loaded}
-use Rattle.etx_outside.proofs.Outsides.{after-append, front_behind, front_all, front_none}
-use Rattle.etx_settle.specs.Deeds.{PenState, JournalState, entries, pen_after_all}
-use Rattle.etx_settle.specs.declared.deed.Deed.{Deed}
+use Rattle.etx_outside.proofs.Outsides.{after-append, front_behind, front_none}
+use Rattle.etx_settle.specs.Deeds.{JournalState, entries, pen_after_all}
 use Rattle.etx_settle.proofs.Deeds.{entries-append, pen_after_all-append}
-use Rattle.mach.specs.declared.plan.Mouth.{Mouth}
-use Rattle.mach.specs.Turn.{turn_of, resumed}
-use Rattle.etx_job.specs.Chain.{Job, World, with_deeds, closing, ended, handled, step_open, step_from, step, chain, more_waiting, IsFor, Going, Asks, Cut}
-use Rattle.mach.specs.declared.plan.Yield.{Yield}
-use Rattle.mach.specs.declared.plan.Yield.TheVariants.{Quiet, Act, Ask, Done}
-use Rattle.mach.specs.declared.plan.End.{End}
-use Rattle.mach.specs.declared.plan.End.TheVariants.{Spent}
-
--- the world that a machine and a journal stand for
-abbrev pub world_of : Mouth → JournalState → History → Option End → World
-world_of mouth journal done end = record { mouth = mouth; pen = pen_after_all journal.pen journal.waiting; trace = done ++ entries journal.pen journal.waiting; end = end }
+use Rattle.etx_matter.specs.declared.deed.Deed.{Deed}
+use Rattle.etx_matter.specs.declared.end.End.{End}
+use Rattle.etx_matter.specs.declared.end.End.TheVariants.{Spent}
+use Rattle.etx_job.specs.declared.mouth.Mouth.{Mouth}
+use Rattle.etx_job.specs.declared.mouth.Yield.{Yield}
+use Rattle.etx_job.specs.declared.mouth.Yield.TheVariants.{Quiet, Act, Load, Done}
+use Rattle.etx_job.specs.Turn.{turn_of, resumed, line_of}
+use Rattle.etx_job.specs.Chain.{Job, World, with_deeds, closing, ended, handled, step_open, step, chain}
+use Rattle.etx_job.specs.Going.{more_waiting, world_of, IsFor, Going, Over, AfterTurn, Asks, AtAsk, Cut}
 
 abbrev pub flushed : JournalState → JournalState
 flushed journal = record { pen = pen_after_all journal.pen journal.waiting; waiting = [] }
@@ -40,27 +36,30 @@ lt_true a b h = grind (arith, nat_tests)
 pub lt_false : (a b : ℕ) → b ≤ a → nat_lt a b ≡ false
 lt_false a b h = grind (arith, nat_tests)
 
-module _ {job : Job} {first now : Outside} {mouth : Mouth} {journal : JournalState} (g : Going job first mouth journal None now) where
-  world : World
-  world = world_of mouth journal g.done None
+module _ {job : Job} {first now : Outside} {mouth : Mouth} {journal : JournalState} (g : Going job first mouth journal now) where
+  abbrev here : World
+  here = world_of mouth journal g.done None
 
-  next_world : chain job (suc g.turns) ≡ step_open job (world_of mouth journal g.done None)
+  abbrev there : World
+  there = world_of (turn_of mouth).now journal g.done None
+
+  next_world : chain job (suc g.turns) ≡ step_open job here
   unfolding chain step
   next_world = ap (step job) g.at
 
-  within : (turn_of mouth).now.spent ≤ job.budget → chain job (suc g.turns) ≡ handled job (world_of (turn_of mouth).now journal g.done None) (turn_of mouth).did
-  within le = next_world ∙ ap (λ b. cond b (ended Spent (world_of (turn_of mouth).now journal g.done None)) (handled job (world_of (turn_of mouth).now journal g.done None) (turn_of mouth).did)) (lt_false job.budget (turn_of mouth).now.spent le)
+  within : (turn_of mouth).now.spent ≤ job.budget → chain job (suc g.turns) ≡ handled job there (turn_of mouth).did
+  within le = next_world ∙ ap (λ b. cond b (ended Spent here) (handled job there (turn_of mouth).did)) (lt_false job.budget (turn_of mouth).now.spent le)
 
-  beyond : job.budget < (turn_of mouth).now.spent → chain job (suc g.turns) ≡ ended Spent (world_of (turn_of mouth).now journal g.done None)
-  beyond lt = next_world ∙ ap (λ b. cond b (ended Spent (world_of (turn_of mouth).now journal g.done None)) (handled job (world_of (turn_of mouth).now journal g.done None) (turn_of mouth).did)) (lt_true job.budget (turn_of mouth).now.spent lt)
+  beyond : job.budget < (turn_of mouth).now.spent → chain job (suc g.turns) ≡ ended Spent here
+  beyond lt = next_world ∙ ap (λ b. cond b (ended Spent here) (handled job there (turn_of mouth).did)) (lt_true job.budget (turn_of mouth).now.spent lt)
 
-  yields : (y : Yield) → (turn_of mouth).now.spent ≤ job.budget → (turn_of mouth).did ≡ y → chain job (suc g.turns) ≡ handled job (world_of (turn_of mouth).now journal g.done None) y
-  yields y le is = within le ∙ ap (handled job (world_of (turn_of mouth).now journal g.done None)) is
+  yields : (y : Yield) → (turn_of mouth).now.spent ≤ job.budget → (turn_of mouth).did ≡ y → chain job (suc g.turns) ≡ handled job there y
+  yields y le is = within le ∙ ap (handled job there) is
 
-  pub turn_quiet : (turn_of mouth).now.spent ≤ job.budget → (turn_of mouth).did ≡ Quiet → Going job first (turn_of mouth).now journal None now
+  pub turn_quiet : (turn_of mouth).now.spent ≤ job.budget → (turn_of mouth).did ≡ Quiet → Going job first (turn_of mouth).now journal now
   turn_quiet lt is = record { turns = suc g.turns; done = g.done; at = yields Quiet lt is; now_is = g.now_is }
 
-  pub turn_act : (d : Deed) → (turn_of mouth).now.spent ≤ job.budget → (turn_of mouth).did ≡ Act d → Going job first (turn_of mouth).now (more_waiting journal (d ∷ [])) None now
+  pub turn_act : (d : Deed) → (turn_of mouth).now.spent ≤ job.budget → (turn_of mouth).did ≡ Act d → Going job first (turn_of mouth).now (more_waiting journal (d ∷ [])) now
   turn_act d lt is = record {
     turns = suc g.turns;
     done = g.done;
@@ -68,64 +67,85 @@ module _ {job : Job} {first now : Outside} {mouth : Mouth} {journal : JournalSta
     now_is = g.now_is;
   }
 
-  pub turn_done : (e : End) → (turn_of mouth).now.spent ≤ job.budget → (turn_of mouth).did ≡ Done e → Going job first (turn_of mouth).now (more_waiting journal closing) (Some e) now
+  pub turn_done : (e : End) → (turn_of mouth).now.spent ≤ job.budget → (turn_of mouth).did ≡ Done e → Over job first (more_waiting journal (closing e (line_of (turn_of mouth).now))) e now
   turn_done e lt is = record {
     turns = suc g.turns;
+    mouth = (turn_of mouth).now;
     done = g.done;
-    at = yields (Done e) lt is ∙ waiting_more (turn_of mouth).now journal g.done (Some e) closing;
+    at = yields (Done e) lt is ∙ waiting_more (turn_of mouth).now journal g.done (Some e) (closing e (line_of (turn_of mouth).now));
     now_is = g.now_is;
   }
 
-  pub turn_spent : job.budget < (turn_of mouth).now.spent → Going job first (turn_of mouth).now (more_waiting journal closing) (Some Spent) now
+  pub turn_spent : job.budget < (turn_of mouth).now.spent → Over job first (more_waiting journal (closing Spent 0)) Spent now
   turn_spent le = record {
     turns = suc g.turns;
+    mouth = mouth;
     done = g.done;
-    at = beyond le ∙ waiting_more (turn_of mouth).now journal g.done (Some Spent) closing;
+    at = beyond le ∙ waiting_more mouth journal g.done (Some Spent) (closing Spent 0);
     now_is = g.now_is;
   }
 
-  pub turn_asks : (name : List ℕ) → (turn_of mouth).now.spent ≤ job.budget → (turn_of mouth).did ≡ Ask name → Asks job first (turn_of mouth).now journal name now
+  pub turn_asks : (name : List ℕ) → (turn_of mouth).now.spent ≤ job.budget → (turn_of mouth).did ≡ Load name → Asks job first (turn_of mouth).now journal name now
   turn_asks name lt is = record {
     turns = g.turns;
     done = g.done;
-    next = yields (Ask name) lt is;
+    next = yields (Load name) lt is;
     now_is = g.now_is;
     at = ap (λ (w : World). w.trace) g.at;
   }
 
--- the same, of a machine and a journal that are equal
-pub going_is : {job : Job} {first now : Outside} {mouth mouth' : Mouth} {journal journal' : JournalState} {end : Option End} → Going job first mouth journal end now → mouth' ≡ mouth → journal' ≡ journal → Going job first mouth' journal' end now
-going_is {end = end} g same_mouth same_journal = record {
+-- the same, of a mouth and a journal that are equal
+pub going_is : {job : Job} {first now : Outside} {mouth mouth' : Mouth} {journal journal' : JournalState} → Going job first mouth journal now → mouth' ≡ mouth → journal' ≡ journal → Going job first mouth' journal' now
+going_is g same_mouth same_journal = record {
   turns = g.turns;
   done = g.done;
-  at = g.at ∙ (λ i. world_of (sym same_mouth i) (sym same_journal i) g.done end);
+  at = g.at ∙ (λ i. world_of (sym same_mouth i) (sym same_journal i) g.done None);
   now_is = g.now_is;
+}
+
+pub over_is : {job : Job} {first now : Outside} {journal journal' : JournalState} {e : End} → Over job first journal e now → journal' ≡ journal → Over job first journal' e now
+over_is {e = e} o same = record {
+  turns = o.turns;
+  mouth = o.mouth;
+  done = o.done;
+  at = o.at ∙ (λ i. world_of o.mouth (sym same i) o.done (Some e));
+  now_is = o.now_is;
 }
 
 pub asks_is : {job : Job} {first now : Outside} {mouth mouth' : Mouth} {journal : JournalState} {name name' : List ℕ} → Asks job first mouth journal name now → mouth' ≡ mouth → name' ≡ name → Asks job first mouth' journal name' now
 asks_is {job = job} {journal = journal} a same_mouth same_name = record {
   turns = a.turns;
   done = a.done;
-  next = a.next ∙ (λ i. handled job (world_of (sym same_mouth i) journal a.done None) (Ask (sym same_name i)));
+  next = a.next ∙ (λ i. handled job (world_of (sym same_mouth i) journal a.done None) (Load (sym same_name i)));
   now_is = a.now_is;
   at = a.at;
 }
 
 -- a front of what waits was written
-pub cut_going : {job : Job} {first now new : Outside} {mouth : Mouth} {journal : JournalState} {end : Option End} → Going job first mouth journal end now → Front (entries journal.pen journal.waiting) now new → Cut job first new
+pub cut_going : {job : Job} {first now new : Outside} {mouth : Mouth} {journal : JournalState} → Going job first mouth journal now → Front (entries journal.pen journal.waiting) now new → Cut job first new
 cut_going {job} {first} {now} {new} g f = record {
   turns = g.turns;
   front = subst (λ (w : World). Front w.trace first new) (sym g.at) (front_behind g.done g.now_is f);
 }
 
+pub cut_over : {job : Job} {first now new : Outside} {journal : JournalState} {e : End} → Over job first journal e now → Front (entries journal.pen journal.waiting) now new → Cut job first new
+cut_over {job} {first} {now} {new} o f = record {
+  turns = o.turns;
+  front = subst (λ (w : World). Front w.trace first new) (sym o.at) (front_behind o.done o.now_is f);
+}
+
+-- what stands after a turn, where it is known whether the turn ended the job
+pub over_of : (job : Job) (first : Outside) (mouth : Mouth) (journal : JournalState) (now : Outside) {o : Option End} {e : End} → o ≡ Some e → AfterTurn o job first mouth journal now → Over job first journal e now
+over_of job first mouth journal now is after = subst (λ (o : Option End). AfterTurn o job first mouth journal now) is after
+
+pub going_of : (job : Job) (first : Outside) (mouth : Mouth) (journal : JournalState) (now : Outside) {o : Option End} → o ≡ None → AfterTurn o job first mouth journal now → Going job first mouth journal now
+going_of job first mouth journal now is after = subst (λ (o : Option End). AfterTurn o job first mouth journal now) is after
+
 -- nothing more was written
-pub cut_here : {job : Job} {first now : Outside} {mouth : Mouth} {journal : JournalState} {end : Option End} → Going job first mouth journal end now → Cut job first now
+pub cut_here : {job : Job} {first now : Outside} {mouth : Mouth} {journal : JournalState} → Going job first mouth journal now → Cut job first now
 cut_here g = cut_going g (front_none _ refl)
 
 module _ {job : Job} {first now : Outside} {mouth : Mouth} {journal : JournalState} {name : List ℕ} (a : Asks job first mouth journal name now) where
-  trace : History
-  trace = a.done ++ entries journal.pen journal.waiting
-
   pub cut_flush : {new : Outside} → Front (entries journal.pen journal.waiting) now new → Cut job first new
   cut_flush {new} f = record { turns = a.turns; front = subst (λ (h : History). Front h first new) (sym a.at) (front_behind a.done a.now_is f) }
 
@@ -136,10 +156,18 @@ module _ {job : Job} {first now : Outside} {mouth : Mouth} {journal : JournalSta
     asked_all : {asked_now : Outside} → asked_now ≡ after (Asked name ∷ []) flushed_now → asked_now ≡ after (a.done ++ entries journal.pen journal.waiting ++ Asked name ∷ []) first
     asked_all asked = asked ∙ ap (after (Asked name ∷ [])) all ∙ sym (after-append (a.done ++ entries journal.pen journal.waiting) (Asked name ∷ []) first)
 
+    pub read_at : {asked_now : Outside} → asked_now ≡ after (Asked name ∷ []) flushed_now → AtAsk job first asked_now
+    read_at asked = record {
+      turns = a.turns;
+      name = name;
+      asks = ap (λ (w : World). w.trace) a.next ∙ ap (λ (h : History). h ++ Asked name ∷ []) (sym a.at);
+      now_is = asked_all asked ∙ ap (λ (h : History). after (h ++ Asked name ∷ []) first) (sym a.at);
+    }
+
     pub cut_load : {asked_now : Outside} → Front (Asked name ∷ []) flushed_now asked_now → Cut job first asked_now
     cut_load {asked_now} f = record { turns = suc a.turns; front = subst (λ (w : World). Front w.trace first asked_now) (sym a.next) (front_behind (a.done ++ entries journal.pen journal.waiting) all f) }
 
-    pub answered : {asked_now : Outside} (loaded : Loaded) → IsFor job first → asked_now ≡ after (Asked name ∷ []) flushed_now → loaded ≡ load_of (flushed_now.files name) → Going job first (resumed mouth loaded) (flushed journal) None asked_now
+    pub answered : {asked_now : Outside} (loaded : Loaded) → IsFor job first → asked_now ≡ after (Asked name ∷ []) flushed_now → loaded ≡ load_of (flushed_now.files name) → Going job first (resumed mouth loaded) (flushed journal) asked_now
     unfolding after
     answered {asked_now} loaded files asked answer =
         let whole = a.done ++ entries journal.pen journal.waiting in

@@ -7,6 +7,7 @@ use Rattle.etx_matter.specs.Ends.{fatal_text}
 use Rattle.etx_matter.specs.declared.deed.Audience.TheVariants.{LogAndTerminal}
 use Rattle.etx_matter.specs.declared.deed.Deed.{Deed}
 use Rattle.etx_matter.specs.declared.deed.Deed.TheVariants.{Fresh, Text, Error, Create}
+use Rattle.etx_matter.specs.declared.end.FatalError.{FatalError}
 use Rattle.etx_matter.specs.declared.end.End.{End}
 use Rattle.etx_matter.specs.declared.end.End.TheVariants.{Ended, Fatal, Spent, Unbuilt}
 use Rattle.etx_job.specs.declared.mouth.Mouth.{Mouth}
@@ -42,12 +43,23 @@ fresh = Fresh LogAndTerminal
 abbrev pub last_line : List Deed
 last_line = fresh ∷ printed (codes "No pages of output.\n") ∷ []
 
+-- a line of its own, and the last line
+abbrev pub closing_by : List ℕ → List Deed
+closing_by text = fresh ∷ printed text ∷ last_line
+
+abbrev pub reason_of : FatalError → List ℕ
+reason_of why = codes "*** (" ++ fatal_text why ++ codes ")\n"
+
+-- the error that ends a job, its reason, and the last line
+abbrev pub closing_fatally : FatalError → ℕ → List Deed
+closing_fatally why line = Error (codes "Emergency stop") line LogAndTerminal ∷ printed (reason_of why) ∷ last_line
+
 -- what an end adds, where the line that was read last has this number
 abbrev pub closing : End → ℕ → List Deed
 closing Ended line = last_line
-closing (Fatal why) line = Error (codes "Emergency stop") line LogAndTerminal ∷ printed (codes "*** (" ++ fatal_text why ++ codes ")\n") ∷ last_line
-closing Spent line = fresh ∷ printed (codes "*** (step budget spent)\n") ∷ last_line
-closing Unbuilt line = fresh ∷ printed (codes "*** (not built yet)\n") ∷ last_line
+closing (Fatal why) line = closing_fatally why line
+closing Spent line = closing_by (codes "*** (step budget spent)\n")
+closing Unbuilt line = closing_by (codes "*** (not built yet)\n")
 
 abbrev pub ended : End → World → World
 ended e w = record (with_deeds (closing e (line_of w.mouth)) w) { end = Some e }

@@ -29,6 +29,17 @@ IsEnding ReadFault = ⊥
 IsEnding WriteFault = ⊥
 IsEnding OutOfMemory = ⊥
 
+-- an answer to words of no known form
+abbrev pub IsRefusal : Status → Type 0
+IsRefusal Clean = ⊥
+IsRefusal Errors = ⊥
+IsRefusal Stopped = ⊥
+IsRefusal Spent = ⊥
+IsRefusal Usage = Unit {0}
+IsRefusal ReadFault = ⊥
+IsRefusal WriteFault = Unit {0}
+IsRefusal OutOfMemory = Unit {0}
+
 abbrev pub usage_line : List ℕ
 usage_line = codes "usage: etx run|alone [--workers N] [--steps N] FILE, etx gen N\n"
 

@@ -8,14 +8,14 @@ ghost use Rattle.etx_outside.specs.Outside.{Outside, outside_of, after, Front, F
 ghost use Rattle.etx_settle.specs.Deeds.{JournalState, AllOpen, first_pen};
 ghost use Rattle.etx_job.specs.Measure.{Falls, IsNoMore};
 ghost use Rattle.etx_job.specs.Words.{log_name};
-ghost use Rattle.etx_job.specs.Chain.{Job, closing, last_line, printed};
+ghost use Rattle.etx_job.specs.Chain.{Job, printed, last_line, closing_by, reason_of, closing_fatally, closing};
 ghost use Rattle.etx_job.specs.Going.{more_waiting, IsFor, Going, AfterTurn, Asks, AtAsk, Cut, Settled};
 
 use crate::fault::Fault;
 use crate::mouth::{Mouth, Yield};
 use crate::words::name_log;
 use etx_lists::Bytes;
-use etx_matter::{Audience, Deed, End};
+use etx_matter::{Audience, Deed, End, FatalError};
 use etx_outside::{Loaded, Terminal, Tree, TreeFault};
 use etx_settle::Journal;
 use std::alloc::{AllocError, Global};
@@ -26,7 +26,10 @@ fn print(alloc: Global, text: &[u8], journal: &mut Journal) -> Result<(), AllocE
     ensures { OnOk result (journal.new ≡ more_waiting journal.old (printed text.now ∷ [])) }
 {
     let bytes = Bytes::from_slice(alloc, text)?;
-    journal.push(Deed::Text { bytes, audience: BOTH })
+    journal.push(Deed::Text {
+        bytes,
+        audience: BOTH,
+    })
 }
 
 /// The last line of the transcript.
@@ -34,7 +37,45 @@ fn print_last_line(alloc: Global, journal: &mut Journal) -> Result<(), AllocErro
     ensures { OnOk result (journal.new ≡ more_waiting journal.old last_line) }
 {
     journal.push(Deed::Fresh(BOTH))?;
-    print(alloc, b"No pages of output.\n", journal)
+    print(alloc, b"No pages of output.\n", journal)?;
+    Ok(())
+}
+
+/// A line of its own, and the last line.
+fn close_by(alloc: Global, text: &[u8], journal: &mut Journal) -> Result<(), AllocError>
+    ensures { OnOk result (journal.new ≡ more_waiting journal.old (closing_by text.now)) }
+{
+    journal.push(Deed::Fresh(BOTH))?;
+    print(alloc, text, journal)?;
+    print_last_line(alloc, journal)?;
+    Ok(())
+}
+
+/// The reason why a job can't go on, in parentheses behind three asterisks.
+fn find_reason(alloc: Global, why: FatalError) -> Result<Bytes, AllocError>
+    ensures { IfOk result (λ text. text ≡ reason_of why) }
+{
+    let mut text = Bytes::from_slice(alloc, b"*** (")?;
+    text.extend_from_slice(why.text())?;
+    text.extend_from_slice(b")\n")?;
+    Ok(text)
+}
+
+/// The error that ends a job, its reason, and the last line.
+fn close_fatally(
+    alloc: Global,
+    why: FatalError,
+    line: u32,
+    journal: &mut Journal,
+) -> Result<(), AllocError>
+    ensures { OnOk result (journal.new ≡ more_waiting journal.old (closing_fatally why line)) }
+{
+    let text = Bytes::from_slice(alloc, b"Emergency stop")?;
+    let reason = find_reason(alloc, why)?;
+    journal.push(Deed::Error { text, line, audience: BOTH })?;
+    print(alloc, reason.as_slice(), journal)?;
+    print_last_line(alloc, journal)?;
+    Ok(())
 }
 
 /// Lets what an end adds wait, where the line that was read last has this number.
@@ -42,25 +83,11 @@ fn close(alloc: Global, end: End, line: u32, journal: &mut Journal) -> Result<()
     ensures { OnOk result (journal.new ≡ more_waiting journal.old (closing end line)) }
 {
     match end {
-        End::Ended => {}
-        End::Fatal(why) => {
-            let text = Bytes::from_slice(alloc, b"Emergency stop")?;
-            journal.push(Deed::Error { text, line, audience: BOTH })?;
-            let mut reason = Bytes::from_slice(alloc, b"*** (")?;
-            reason.extend_from_slice(why.text())?;
-            reason.extend_from_slice(b")\n")?;
-            journal.push(Deed::Text { bytes: reason, audience: BOTH })?;
-        }
-        End::Spent => {
-            journal.push(Deed::Fresh(BOTH))?;
-            print(alloc, b"*** (step budget spent)\n", journal)?;
-        }
-        End::Unbuilt => {
-            journal.push(Deed::Fresh(BOTH))?;
-            print(alloc, b"*** (not built yet)\n", journal)?;
-        }
+        End::Ended => print_last_line(alloc, journal),
+        End::Fatal(why) => close_fatally(alloc, why, line, journal),
+        End::Spent => close_by(alloc, b"*** (step budget spent)\n", journal),
+        End::Unbuilt => close_by(alloc, b"*** (not built yet)\n", journal),
     }
-    print_last_line(alloc, journal)
 }
 
 /// Asks for a name. The terminal stays as it is.
@@ -116,7 +143,7 @@ fn ask<F: Tree, T: Terminal>(
         Err(TreeFault::Failed) => return Err(Fault::ReadFault),
         Err(TreeFault::OutOfMemory) => return Err(Fault::OutOfMemory),
     };
-    mouth.resume(loaded);
+    mouth.resume(alloc, loaded)?;
     Ok(())
 }
 

@@ -8,5 +8,4 @@ ghost use Rattle.etx_job.specs.Meaning.{Meaning, IsMeaning};
 pub fn each_job_has_one_meaning()
     ensures one { (words : List (List ℕ)) (files : Files) → (m : Meaning) × IsMeaning words files m }
     ensures only { (words : List (List ℕ)) (files : Files) (m n : Meaning) → IsMeaning words files m → IsMeaning words files n → m ≡ n }
-{
-}
+{}

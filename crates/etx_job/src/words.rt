@@ -1,5 +1,5 @@
 //! The words of the command line.
-ghost use Rattle.std.specs.Prelude.{◌≡◌, ℕ, List, Option, Some, None, IfOk, OnOk, map};
+ghost use Rattle.std.specs.Prelude.{◌≡◌, ℕ, List, Option, Some, None, IfOk, OnOk, map, string_bytes};
 ghost use Rattle.etx_job.specs.Words.{begins_with_dash, is_file_word, file_asked, log_name};
 
 use etx_lists::Bytes;
@@ -9,7 +9,7 @@ use std::alloc::{AllocError, Global};
 pub fn name_log(alloc: Global, file: &[u8]) -> Result<Bytes, AllocError>
     ensures { IfOk result (λ name. name ≡ log_name file.now) }
 {
-    let mut name = Bytes::from_slice(alloc, etx_outside::job_name(file))?;
+    let mut name = Bytes::from_slice(alloc, etx_outside::names::job_name(file))?;
     name.extend_from_slice(b".log")?;
     Ok(name)
 }
@@ -17,7 +17,7 @@ pub fn name_log(alloc: Global, file: &[u8]) -> Result<Bytes, AllocError>
 fn is_file_word(word: &[u8]) -> bool
     ensures { result ≡ is_file_word word.now }
 {
-    etx_outside::is_good(word) && !matches!(word, [b'-', ..])
+    etx_outside::names::is_good(word) && !matches!(word, [b'-', ..])
 }
 
 /// The main file that the words ask for, with its extension. `None` exactly where the words are of no known form.
@@ -25,8 +25,8 @@ pub fn find_file(alloc: Global, words: &[String]) -> Result<Option<Bytes>, Alloc
     ensures { IfOk result (λ file. file ≡ file_asked (map string_bytes words.now)) }
 {
     match words {
-        [command, file] if command.as_bytes() == b"alone" && is_file_word(file.as_bytes()) => {
-            let name = etx_outside::with_extension(alloc, file.as_bytes(), b".tex")?;
+        [command, file] if command.as_bytes() == b"alone".as_slice() && is_file_word(file.as_bytes()) => {
+            let name = etx_outside::names::with_extension(alloc, file.as_bytes(), b".tex")?;
             Ok(Some(name))
         }
         _ => Ok(None),

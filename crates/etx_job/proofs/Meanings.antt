@@ -1,0 +1,87 @@
+-- What a caller of the top call sees.
+use Rattle.std.proofs.Common.{◌≡◌, ℕ, List, [], ◌∷◌, ◌++◌, Option, Some, None, IsSome, MatchOption, refl, sym, ◌∙◌, ap, subst}
+use Rattle.etx_outside.specs.Entries.{Files, History, files_after, asked_in, said}
+use Rattle.etx_outside.specs.Outside.{Outside, outside_of, after, Front}
+use Rattle.etx_matter.specs.declared.end.End.{End}
+use Rattle.etx_matter.specs.declared.end.Status.{Status}
+use Rattle.etx_job.specs.Chain.{Job, World, IsMean}
+use Rattle.etx_job.specs.Going.{IsFor, Cut, Settled}
+use Rattle.etx_job.specs.Words.{file_asked}
+use Rattle.etx_job.specs.Meaning.{Meaning, status_of, job_over, usage, IsMeaningOfJob, IsMeaning}
+use Rattle.etx_job.proofs.Ends.{cut_of_mean, one_mean, mean_of}
+
+-- an end that is there
+some_end : (o : Option End) → IsSome o → (e : End) × (o ≡ Some e)
+some_end None none = cc
+some_end (Some e) has = (e, refl)
+
+-- each job has a meaning, and one alone
+pub meaning_of_job : (job : Job) → (m : Meaning) × IsMeaningOfJob job m
+meaning_of_job job =
+    let mean = mean_of job in
+    let end = some_end mean.0.end mean.1.has_ended in
+    (record { history = mean.0.trace; status = status_of end.0 }, record { world = mean.0; mean = mean.1; end = end.0; ends = end.1; is = refl })
+
+same_meaning : (v w : World) (d e : End) → v ≡ w → v.end ≡ Some d → w.end ≡ Some e → (record { history = v.trace; status = status_of d }) ≡ (record { history = w.trace; status = status_of e })
+same_meaning v w d e same is it_is =
+    let ends : d ≡ e = cc (ap (λ (u : World). u.end) same) in
+    λ i. record { history = (same i).trace; status = status_of (ends i) }
+
+pub one_meaning_of_job : (job : Job) (m n : Meaning) → IsMeaningOfJob job m → IsMeaningOfJob job n → m ≡ n
+one_meaning_of_job job m n a b = a.is ∙ same_meaning a.world b.world a.end b.end (one_mean job a.world b.world a.mean b.mean) a.ends b.ends ∙ sym b.is
+
+-- and so have words
+pub meaning_of : (words : List (List ℕ)) (files : Files) → (m : Meaning) × IsMeaning words files m
+meaning_of words files = by (file_asked words)
+  where
+    by : (o : Option (List ℕ)) → (m : Meaning) × MatchOption o (m ≡ usage) (λ name. IsMeaningOfJob (job_over name files) m)
+    by None = (usage, refl)
+    by (Some name) = meaning_of_job (job_over name files)
+
+pub one_meaning : (words : List (List ℕ)) (files : Files) (m n : Meaning) → IsMeaning words files m → IsMeaning words files n → m ≡ n
+one_meaning words files m n a b = by (file_asked words) a b
+  where
+    by : (o : Option (List ℕ)) → MatchOption o (m ≡ usage) (λ name. IsMeaningOfJob (job_over name files) m) → MatchOption o (n ≡ usage) (λ name. IsMeaningOfJob (job_over name files) n) → m ≡ n
+    by None is it_is = is ∙ sym it_is
+    by (Some name) is it_is = one_meaning_of_job (job_over name files) m n is it_is
+
+module _ {F T : Type 0} (files : F → Files) (asked : F → List (List ℕ)) (text : T → List ℕ) (name : List ℕ) (old new : F) (before now : T) where
+  abbrev job : Job
+  job = job_over name (files old)
+
+  pub for_job : IsFor job (outside_of files asked text old before)
+  unfolding outside_of
+  for_job = refl
+
+  -- a job that has ended, and all of whose history was done
+  pub whole_for : (e : End) (s : Status) → Settled job e (outside_of files asked text old before) (outside_of files asked text new now) → s ≡ status_of e
+      → (m : Meaning) × IsMeaningOfJob job m × (s ≡ m.status) × (files new ≡ files_after m.history (files old)) × (asked new ≡ asked old ++ asked_in m.history) × (text now ≡ text before ++ said m.history)
+  unfolding outside_of after
+  whole_for e s settled is = (
+    record { history = settled.world.trace; status = status_of e },
+    record { world = settled.world; mean = settled.mean; end = e; ends = settled.end_is; is = refl },
+    is,
+    ap (λ (o : Outside). o.files) settled.now_is,
+    ap (λ (o : Outside). o.asked) settled.now_is,
+    ap (λ (o : Outside). o.text) settled.now_is,
+  )
+
+  -- a job of whose history some first entries were done
+  pub front_for : Cut job (outside_of files asked text old before) (outside_of files asked text new now)
+      → (m : Meaning) × IsMeaningOfJob job m × ((h : History) × (rest : History) × (h ++ rest ≡ m.history) × (files new ≡ files_after h (files old)) × (asked new ≡ asked old ++ asked_in h) × (text now ≡ text before ++ said h))
+  unfolding outside_of after
+  front_for cut =
+      let mean = mean_of job in
+      let end = some_end mean.0.end mean.1.has_ended in
+      let front = cut_of_mean job cut mean.0 mean.1 in (
+        record { history = mean.0.trace; status = status_of end.0 },
+        record { world = mean.0; mean = mean.1; end = end.0; ends = end.1; is = refl },
+        (
+          front.written,
+          front.rest,
+          front.parts,
+          ap (λ (o : Outside). o.files) front.now,
+          ap (λ (o : Outside). o.asked) front.now,
+          ap (λ (o : Outside). o.text) front.now,
+        ),
+      )
