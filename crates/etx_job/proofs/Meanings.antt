@@ -4,16 +4,36 @@ use Rattle.etx_outside.specs.Entries.{Files, History, files_after, asked_in, sai
 use Rattle.etx_outside.specs.Outside.{Outside, outside_of, after, Front}
 use Rattle.etx_matter.specs.declared.end.End.{End}
 use Rattle.etx_matter.specs.declared.end.Status.{Status}
+use Rattle.etx_matter.specs.declared.end.Status.TheVariants.{Clean, Errors, Stopped, Spent, Usage, ReadFault, WriteFault, OutOfMemory}
 use Rattle.etx_job.specs.Chain.{Job, World, IsMean}
 use Rattle.etx_job.specs.Going.{IsFor, Cut, Settled}
 use Rattle.etx_job.specs.Words.{file_asked}
-use Rattle.etx_job.specs.Meaning.{Meaning, status_of, job_over, usage, IsMeaningOfJob, IsMeaning}
+use Rattle.etx_job.specs.Meaning.{Meaning, IsEnding, IsRefusal, status_of, job_over, usage, IsMeaningOfJob, IsMeaning}
 use Rattle.etx_job.proofs.Ends.{cut_of_mean, one_mean, mean_of}
 
 -- an end that is there
 some_end : (o : Option End) → IsSome o → (e : End) × (o ≡ Some e)
 some_end None none = cc
 some_end (Some e) has = (e, refl)
+
+-- an answer that is both an ending and a refusal
+pub usage_of : (s : Status) → IsEnding s → IsRefusal s → s ≡ Usage
+usage_of Clean ends refuses = absurd refuses
+usage_of Errors ends refuses = absurd refuses
+usage_of Stopped ends refuses = absurd refuses
+usage_of Spent ends refuses = absurd refuses
+usage_of Usage ends refuses = refl
+usage_of ReadFault ends refuses = absurd refuses
+usage_of WriteFault ends refuses = absurd ends
+usage_of OutOfMemory ends refuses = absurd ends
+
+-- the meaning of words of no known form
+pub usage_meant : (words : List (List ℕ)) (files : Files) → file_asked words ≡ None → IsMeaning words files usage
+usage_meant words files none = subst (λ (o : Option (List ℕ)). MatchOption o (usage ≡ usage) (λ name. IsMeaningOfJob (job_over name files) usage)) (sym none) refl
+
+-- the meaning of words that ask for a file
+pub job_meant : (words : List (List ℕ)) (files : Files) (name : List ℕ) (m : Meaning) → file_asked words ≡ Some name → IsMeaningOfJob (job_over name files) m → IsMeaning words files m
+job_meant words files name m asks is = subst (λ (o : Option (List ℕ)). MatchOption o (m ≡ usage) (λ n. IsMeaningOfJob (job_over n files) m)) (sym asks) is
 
 -- each job has a meaning, and one alone
 pub meaning_of_job : (job : Job) → (m : Meaning) × IsMeaningOfJob job m
@@ -22,10 +42,14 @@ meaning_of_job job =
     let end = some_end mean.0.end mean.1.has_ended in
     (record { history = mean.0.trace; status = status_of end.0 }, record { world = mean.0; mean = mean.1; end = end.0; ends = end.1; is = refl })
 
-same_meaning : (v w : World) (d e : End) → v ≡ w → v.end ≡ Some d → w.end ≡ Some e → (record { history = v.trace; status = status_of d }) ≡ (record { history = w.trace; status = status_of e })
+abbrev end_meaning : World → End → Meaning
+end_meaning w e = record { history = w.trace; status = status_of e }
+
+same_meaning : (v w : World) (d e : End) → v ≡ w → v.end ≡ Some d → w.end ≡ Some e → end_meaning v d ≡ end_meaning w e
 same_meaning v w d e same is it_is =
-    let ends : d ≡ e = cc (ap (λ (u : World). u.end) same) in
-    λ i. record { history = (same i).trace; status = status_of (ends i) }
+    let there : Some d ≡ Some e = sym is ∙ ap (λ (u : World). u.end) same ∙ it_is in
+    let ends : d ≡ e = cc in
+    λ i. end_meaning (same i) (ends i)
 
 pub one_meaning_of_job : (job : Job) (m n : Meaning) → IsMeaningOfJob job m → IsMeaningOfJob job n → m ≡ n
 one_meaning_of_job job m n a b = a.is ∙ same_meaning a.world b.world a.end b.end (one_mean job a.world b.world a.mean b.mean) a.ends b.ends ∙ sym b.is
@@ -45,13 +69,13 @@ one_meaning words files m n a b = by (file_asked words) a b
     by None is it_is = is ∙ sym it_is
     by (Some name) is it_is = one_meaning_of_job (job_over name files) m n is it_is
 
+pub for_job : {F T : Type 0} (files : F → Files) (asked : F → List (List ℕ)) (text : T → List ℕ) (name : List ℕ) (old : F) (before : T) → IsFor (job_over name (files old)) (outside_of files asked text old before)
+unfolding outside_of
+for_job files asked text name old before = refl
+
 module _ {F T : Type 0} (files : F → Files) (asked : F → List (List ℕ)) (text : T → List ℕ) (name : List ℕ) (old new : F) (before now : T) where
   abbrev job : Job
   job = job_over name (files old)
-
-  pub for_job : IsFor job (outside_of files asked text old before)
-  unfolding outside_of
-  for_job = refl
 
   -- a job that has ended, and all of whose history was done
   pub whole_for : (e : End) (s : Status) → Settled job e (outside_of files asked text old before) (outside_of files asked text new now) → s ≡ status_of e

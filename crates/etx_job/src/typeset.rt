@@ -5,7 +5,7 @@ ghost use Rattle.etx_outside.specs.Entries.{History, files_after, asked_in, said
 ghost use Rattle.etx_outside.specs.Outside.{outside_of};
 ghost use Rattle.etx_job.specs.Words.{file_asked};
 ghost use Rattle.etx_job.specs.Going.{AtAsk};
-ghost use Rattle.etx_job.specs.Meaning.{Meaning, IsMeaning, IsMeaningOfJob, IsEnding, IsRefusal, job_over, usage_line};
+ghost use Rattle.etx_job.specs.Meaning.{Meaning, IsMeaning, IsMeaningOfJob, IsEnding, IsRefusal, status_of, job_over, usage_line};
 
 use crate::driver::run;
 use crate::fault::Fault;
@@ -30,6 +30,17 @@ fn say_usage<T: Terminal>(alloc: Global, terminal: &mut T) -> Status
         Ok(()) => Status::Usage,
         Err(TermFault::Failed) => Status::WriteFault,
         Err(TermFault::OutOfMemory) => Status::OutOfMemory,
+    }
+}
+
+/// The answer for an end.
+fn find_status(end: End) -> Status
+    ensures { result ≡ status_of end }
+{
+    match end {
+        End::Ended => Status::Clean,
+        End::Spent => Status::Spent,
+        End::Fatal(_) | End::Unbuilt => Status::Stopped,
     }
 }
 
@@ -58,10 +69,7 @@ fn typeset_file<F: Tree, T: Terminal>(
         Rose (F.faults tree.old).writes (F.faults tree.new).writes ⊎ Rose (T.faults terminal.old) (T.faults terminal.new) }
 {
     match run(alloc, name, DEFAULT_BUDGET, tree, terminal) {
-        Ok(End::Ended) => Status::Clean,
-        Ok(End::Fatal(_)) => Status::Stopped,
-        Ok(End::Spent) => Status::Spent,
-        Ok(End::Unbuilt) => Status::Stopped,
+        Ok(end) => find_status(end),
         Err(Fault::ReadFault) => Status::ReadFault,
         Err(Fault::WriteFault) => Status::WriteFault,
         Err(Fault::OutOfMemory) => Status::OutOfMemory,
