@@ -2,10 +2,12 @@
 #![tactic(auto)]
 
 mod memory;
+mod memory_terminal;
 pub mod names;
 mod terminal;
 mod tree;
 
-pub use memory::{MemFile, MemTerminal, MemTree};
+pub use memory::{LONGEST_FILE, MemTree};
+pub use memory_terminal::MemTerminal;
 pub use terminal::{TermFault, Terminal};
 pub use tree::{Loaded, Tree, TreeFault};

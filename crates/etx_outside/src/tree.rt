@@ -12,7 +12,7 @@ use std::alloc::{AllocError, AllocFailed, Global};
 pub enum Loaded {
     Absent,
     TooLong,
-    Contents(Bytes),
+    Bytes(Bytes),
 }
 
 #[derive(Clone, Copy, Debug, PartialEq, Eq)]
