@@ -1,6 +1,7 @@
 -- Files in memory: a list of them as a map, and a map as what each name's file holds.
-use Rattle.std.proofs.Common.{◌≡◌, ◌≢◌, ◌<◌, ◌+◌, ℕ, zero, suc, List, [], ◌∷◌, ◌++◌, length, get_or, set, take, Option, Some, None, IsSome, unwrap_or, Bool, true, false, cond, nat_eq, refl, sym, ◌∙◌, ap, subst, inl, inr, arith}
+use Rattle.std.proofs.Common.{◌≡◌, ◌≢◌, ◌<◌, ◌+◌, ℕ, zero, suc, List, [], ◌∷◌, ◌++◌, length, get_or, set, map, Option, Some, None, IsSome, unwrap_or, Bool, true, false, cond, nat_eq, refl, sym, ◌∙◌, ap, subst, inl, inr, arith}
 use Rattle.std.proofs.lemmas.Bool.{cases_Bool}
+use Rattle.std.proofs.lemmas.List.{map-append}
 use Rattle.std.proofs.lemmas.Slice.Eq.{bytes_eq-Decides}
 use Rattle.std.specs.List.{All}
 use Rattle.std.specs.Ordering.{nat_cmp, eq_by_cmp}
@@ -152,3 +153,11 @@ there_and_not files seen name is none some = no_such (file_at (file_map files) n
 
 pub pushed : (files seen : List File) (name bytes : List ℕ) → seen ≡ files → All (λ f. f.0 ≢ name) seen → file_map (files ++ (name, bytes) ∷ []) ≡ with_file name bytes (file_map files)
 pushed files seen name bytes is none = file_map_push files name bytes (subst (λ (l : List File). All (λ f. f.0 ≢ name) l) is none)
+
+-- one more of the files that a tree is made of
+pub given_push : {V : Type 0} (text : V → List ℕ) (fs : List (V × V)) (name content : V) (seen kept : List ℕ) (files : FileMap) → seen ≡ text name → kept ≡ text content
+    → with_file seen kept (with_all (map (λ f. (text f.0, text f.1)) fs) files) ≡ with_all (map (λ f. (text f.0, text f.1)) (fs ++ (name, content) ∷ [])) files
+given_push {V} text fs name content seen kept files is_name is_content =
+    let plain : V × V → File = λ f. (text f.0, text f.1) in
+    (λ i. with_file (is_name i) (is_content i) (with_all (map plain fs) files))
+    ∙ sym (ap (λ (l : List File). with_all l files) (map-append plain fs ((name, content) ∷ [])) ∙ with_all_push (map plain fs) (text name, text content) files)

@@ -26,7 +26,7 @@ put_over name old new files = λ i q. at q i
     at : (q : List ℕ) → put name new (put name old files) q ≡ put name new files q
     at q = elim (same name q) as (λ b. cond b (Some new) (cond b (Some old) (files q)) ≡ cond b (Some new) (files q)) [ true ↦ refl | false ↦ refl ]
 
-put_same : (name bytes : List ℕ) (files : Files) → put name bytes files name ≡ Some bytes
+pub put_same : (name bytes : List ℕ) (files : Files) → put name bytes files name ≡ Some bytes
 put_same name bytes files = ap (λ b. cond b (Some bytes) (files name)) ((bytes_eq-Decides name name).1 refl)
 
 -- bytes to a file that is there
@@ -38,7 +38,7 @@ grown name (b ∷ more) old files is =
     ∙ put_over name (old ++ b ∷ []) ((old ++ b ∷ []) ++ more) files
     ∙ ap (λ (l : List ℕ). put name l files) (append_assoc old (b ∷ []) more)
 
-put_keeps : (name bytes : List ℕ) (files : Files) (q : List ℕ) → IsSome (files q) → IsSome (put name bytes files q)
+pub put_keeps : (name bytes : List ℕ) (files : Files) (q : List ℕ) → IsSome (files q) → IsSome (put name bytes files q)
 put_keeps name bytes files q there = elim (same name q) as (λ b. IsSome (cond b (Some bytes) (files q))) [ true ↦ refl | false ↦ there ]
 
 add_keeps : (file : Option (List ℕ)) (name : List ℕ) (b : ℕ) (files : Files) (q : List ℕ) → IsSome (files q) → IsSome (add_to file name b files q)
