@@ -6,13 +6,10 @@ ghost use Rattle.etx_outside.specs.Faults.{Counts, Later, Rose};
 ghost use Rattle.etx_outside.specs.Loading.{load_of};
 ghost use Rattle.etx_outside.specs.Memory.{FileMap, IsFirstNamed, no_files, file_at, file_map, with_file, with_more, with_all, is_failing, half, fresh_tree, tree_asked, tree_written, with_read_fault, with_write_fault};
 
-use crate::{Loaded, Tree, TreeFault};
+use crate::{LONGEST_FILE, Loaded, Tree, TreeFault};
 use etx_lists::Bytes;
 use std::alloc::{AllocError, Global};
 use std::marker::Model;
-
-/// The most bytes of a file that is loaded.
-pub const LONGEST_FILE: usize = 16_777_216;
 
 /// A tree in memory. Its calls are numbered from 1, each call behind number 2^64-1 having that number too, and those
 /// whose numbers are listed fail. A call that answers want of memory changes nothing, and isn't counted.

@@ -108,6 +108,22 @@ impl<R: Files + Clone + Drop> RealTree<R> {
     }
 }
 
+impl<R: Drop> RealTree<R> {
+    /// How many loads answered an `Err`, up to 2^64-1.
+    pub fn read_faults(&self) -> u64
+        ensures { result ≡ self.now.reads }
+    {
+        self.read_faults
+    }
+
+    /// How many creations and additions answered an `Err`, up to 2^64-1.
+    pub fn write_faults(&self) -> u64
+        ensures { result ≡ self.now.writes }
+    {
+        self.write_faults
+    }
+}
+
 impl<R: Files + Drop> Tree for RealTree<R> {
     ghost tells = { ⊥ };
 
@@ -181,6 +197,15 @@ impl<R: Print + Clone + Drop> RealTerminal<R> {
             Ok(rt) => RealTerminal { rt, faults: 0 },
             Err(_) => unreachable!(),
         }
+    }
+}
+
+impl<R: Drop> RealTerminal<R> {
+    /// How many calls answered an `Err`, up to 2^64-1.
+    pub fn faults(&self) -> u64
+        ensures { result ≡ self.now }
+    {
+        self.faults
     }
 }
 
