@@ -1,27 +1,14 @@
--- Files put in, one after the other.
-use Rattle.std.proofs.Common.{◌≡◌, ℕ, List, [], ◌∷◌, ◌++◌, Option, Some, None, IsSome, MatchOption, nat_eq, Bool, true, false, cond, refl, sym, ◌∙◌, ap, append_assoc}
+-- Files put in, and bytes added to them.
+use Rattle.std.proofs.Common.{◌≡◌, ℕ, List, [], ◌∷◌, ◌++◌, Option, Some, None, IsSome, nat_eq, Bool, true, false, cond, refl, sym, ◌∙◌, ap, append_assoc}
 use Rattle.std.proofs.lemmas.Bool.{cases_Bool}
 use Rattle.std.proofs.lemmas.List.{append-nil}
 use Rattle.std.proofs.lemmas.Slice.Eq.{bytes_eq-Decides}
 use Rattle.std.specs.Cmp.Lexicographic.{pointwise}
 use mathlib.Core.Logic.{inl, inr}
-use Rattle.etx_outside.specs.declared.memory.MemFile.{MemFile}
 use Rattle.etx_outside.specs.Entries.{History, Asked, Made, Byte, Shown, Files, put, add_to, files_after, bytes_to}
-use Rattle.etx_outside.specs.Memory.{put_all, files_in}
-
-pub put_all-push : (fs : List MemFile) (f : MemFile) (files : Files) → put_all (fs ++ f ∷ []) files ≡ put f.name f.bytes (put_all fs files)
-put_all-push [] f files = refl
-put_all-push (g ∷ fs) f files = put_all-push fs f (put g.name g.bytes files)
 
 abbrev pub same : List ℕ → List ℕ → Bool
 same a b = pointwise nat_eq a b
-
--- one more file of the name that is looked for, or of another
-pub hit : (fs : List MemFile) (f : MemFile) (name : List ℕ) → same f.name name ≡ true → files_in (fs ++ f ∷ []) name ≡ Some f.bytes
-hit fs f name is = ap (λ (files : Files). files name) (put_all-push fs f (λ q. None)) ∙ ap (λ b. cond b (Some f.bytes) (files_in fs name)) is
-
-pub miss : (fs : List MemFile) (f : MemFile) (name : List ℕ) → same f.name name ≡ false → files_in (fs ++ f ∷ []) name ≡ files_in fs name
-miss fs f name is = ap (λ (files : Files). files name) (put_all-push fs f (λ q. None)) ∙ ap (λ b. cond b (Some f.bytes) (files_in fs name)) is
 
 -- what a file holds put in again changes nothing
 put_again : (name old : List ℕ) (files : Files) → files name ≡ Some old → files ≡ put name old files
@@ -39,7 +26,7 @@ put_over name old new files = λ i q. at q i
     at : (q : List ℕ) → put name new (put name old files) q ≡ put name new files q
     at q = elim (same name q) as (λ b. cond b (Some new) (cond b (Some old) (files q)) ≡ cond b (Some new) (files q)) [ true ↦ refl | false ↦ refl ]
 
-put_same : (name bytes : List ℕ) (files : Files) → put name bytes files name ≡ Some bytes
+pub put_same : (name bytes : List ℕ) (files : Files) → put name bytes files name ≡ Some bytes
 put_same name bytes files = ap (λ b. cond b (Some bytes) (files name)) ((bytes_eq-Decides name name).1 refl)
 
 -- bytes to a file that is there
@@ -51,7 +38,7 @@ grown name (b ∷ more) old files is =
     ∙ put_over name (old ++ b ∷ []) ((old ++ b ∷ []) ++ more) files
     ∙ ap (λ (l : List ℕ). put name l files) (append_assoc old (b ∷ []) more)
 
-put_keeps : (name bytes : List ℕ) (files : Files) (q : List ℕ) → IsSome (files q) → IsSome (put name bytes files q)
+pub put_keeps : (name bytes : List ℕ) (files : Files) (q : List ℕ) → IsSome (files q) → IsSome (put name bytes files q)
 put_keeps name bytes files q there = elim (same name q) as (λ b. IsSome (cond b (Some bytes) (files q))) [ true ↦ refl | false ↦ there ]
 
 add_keeps : (file : Option (List ℕ)) (name : List ℕ) (b : ℕ) (files : Files) (q : List ℕ) → IsSome (files q) → IsSome (add_to file name b files q)

@@ -1,23 +1,21 @@
-// A tree and a terminal in memory.
-ghost use Rattle.std.specs.Prelude.{◌≡◌, ◌≤◌, ◌++◌, ◌∷◌, [], List, ℕ, Option, IsSome, OnOk, OnErr, ⊤, MatchOption, vec_len};
-ghost use Rattle.etx_outside.specs.Entries.{Files, put, files_after, bytes_to};
-ghost use Rattle.etx_outside.specs.Faults.{Counts};
+// A tree in memory, some of whose calls fail.
+ghost use Rattle.std.specs.Prelude.{◌≡◌, ◌≢◌, ◌⊎◌, ◌++◌, ◌∷◌, ◌≤◌, [], ⊤, List, ℕ, Bool, true, false, IsSome, IfOk, OnOk, OnErr, IsErrOf, MatchOption, All, take, map, length};
+ghost use Rattle.std.specs.Option.{option_copied};
+ghost use Rattle.etx_outside.specs.Entries.{Files, Made, files_after, bytes_to};
+ghost use Rattle.etx_outside.specs.Faults.{Counts, Later, Rose};
+ghost use Rattle.etx_outside.specs.Loading.{load_of};
+ghost use Rattle.etx_outside.specs.Memory.{FileMap, IsFirstNamed, no_files, file_at, file_map, with_file, with_more, with_all, is_failing, half, fresh_tree, tree_asked, tree_written, with_read_fault, with_write_fault};
 
-use crate::{Loaded, TermFault, Terminal, Tree, TreeFault};
+use crate::{LONGEST_FILE, Loaded, Tree, TreeFault};
 use etx_lists::Bytes;
 use std::alloc::{AllocError, Global};
+use std::marker::Model;
 
-const GREATEST_FILE: usize = 16777216;
-
-#[derive(Drop)]
-pub struct MemFile {
-    pub name: Bytes,
-    pub bytes: Bytes,
-}
-
-#[derive(Drop)]
+/// A tree in memory. Its calls are numbered from 1, each call behind number 2^64-1 having that number too, and those
+/// whose numbers are listed fail. A call that answers want of memory changes nothing, and isn't counted.
+#[derive(Debug, Drop)]
 pub struct MemTree {
-    files: Vec<MemFile>,
+    files: Vec<(Bytes, Bytes)>,
     asked: Vec<Bytes>,
     failing: Vec<u64>,
     calls: u64,
@@ -25,162 +23,226 @@ pub struct MemTree {
     write_faults: u64,
 }
 
-#[derive(Drop)]
-pub struct MemTerminal {
-    text: Bytes,
-    failing: Vec<u64>,
-    calls: u64,
-    faults: u64,
+impl Model for MemTree {
+    ghost use Rattle.etx_outside.specs.Memory.{TreeState, tree_code, file_map};
+
+    ghost Value = { TreeState };
+
+    ghost coded = { tree_code };
+
+    ghost view = { λ t. record {
+        files = file_map t.files.items;
+        asked = t.asked.items;
+        failing = t.failing.items;
+        calls = t.calls;
+        read_faults = t.read_faults;
+        write_faults = t.write_faults
+    } };
 }
 
-fn is_listed(failing: &Vec<u64>, call: u64) -> bool {
-    for number in failing {
-        if *number == call {
-            return true;
+/// Where the first file of this name stands. `None` exactly where there is none.
+fn place(files: &[(Bytes, Bytes)], name: &[u8]) -> Option<usize>
+    ensures { MatchOption result (All (λ f. f.0 ≢ name.now) files.now) (IsFirstNamed name.now files.now) }
+{
+    for (i, file) in files.iter().enumerate() {
+        if file.0.as_slice() == name {
+            return Some(i);
         }
     }
-    false
+    None
+}
+
+/// What the file of this name holds. `None` exactly where there is none.
+fn find<'a>(files: &'a [(Bytes, Bytes)], name: &[u8]) -> Option<&'a Bytes>
+    ensures { option_copied result ≡ file_at (file_map files.now) name.now }
+{
+    let i = place(files, name)?;
+    Some(&files[i].1)
+}
+
+/// Puts a file in, in place of that of its name.
+fn put(
+    alloc: Global,
+    files: &mut Vec<(Bytes, Bytes)>,
+    name: &[u8],
+    content: Bytes,
+) -> Result<(), AllocError>
+    ensures ok { OnOk result (file_map files.new.items ≡ with_file name.now content (file_map files.old.items)) }
+    ensures err { OnErr result (files.new.items ≡ files.old.items) }
+{
+    match place(files, name) {
+        Some(i) => {
+            files[i].1 = content;
+            Ok(())
+        }
+        None => {
+            files.push((Bytes::from_slice(alloc, name)?, content))?;
+            Ok(())
+        }
+    }
+}
+
+/// Adds bytes at the end of the file of this name.
+fn add(files: &mut Vec<(Bytes, Bytes)>, name: &[u8], more: &[u8]) -> Result<(), AllocError>
+    requires { IsSome (file_at (file_map files.old.items) name.now) }
+    ensures ok { OnOk result (file_map files.new.items ≡ with_more name.now more.now (file_map files.old.items)) }
+    ensures err { OnErr result (files.new.items ≡ files.old.items) }
+{
+    match place(files, name) {
+        Some(i) => files[i].1.extend_from_slice(more),
+        None => Ok(()),
+    }
+}
+
+/// What a load of this name answers.
+fn read(alloc: Global, files: &[(Bytes, Bytes)], name: &[u8]) -> Result<Loaded, AllocError>
+    ensures { IfOk result (λ loaded. loaded ≡ load_of (file_at (file_map files.now) name.now)) }
+{
+    match find(files, name) {
+        None => Ok(Loaded::Absent),
+        Some(content) if content.len() > LONGEST_FILE => Ok(Loaded::TooLong),
+        Some(content) => Ok(Loaded::Bytes(content.copy()?)),
+    }
 }
 
 impl MemTree {
-    ghost use Rattle.etx_outside.specs.Memory.{files_in};
-
-    pub fn new(alloc: Global, files: Vec<MemFile>, failing: Vec<u64>) -> Self
-        ensures files { result.files.items ≡ files.items }
-        ensures asked { result.asked.items ≡ [] }
+    /// A tree of these files, each a name and what it holds, in which the calls with these numbers will fail. Of two
+    /// files with one name the last counts. A file of more than 2^30 bytes is refused as want of memory.
+    pub fn new(
+        alloc: Global,
+        files: Vec<(Vec<u8>, Vec<u8>)>,
+        failing: Vec<u64>,
+    ) -> Result<MemTree, AllocError>
+        ensures { IfOk result (λ t. t ≡ fresh_tree (with_all (map (λ f. (f.0.items, f.1.items)) files.items) no_files) failing.items) }
     {
-        MemTree {
-            files,
+        let mut kept = Vec::new(alloc);
+        for (name, content) in files {
+            put(alloc, &mut kept, name.as_slice(), Bytes::from_vec(content)?)?;
+        }
+        Ok(MemTree {
+            files: kept,
             asked: Vec::new(alloc),
             failing,
             calls: 0,
             read_faults: 0,
             write_faults: 0,
+        })
+    }
+
+    /// What the file of this name holds. `None` exactly where there is none.
+    pub fn file(&self, name: &[u8]) -> Option<&[u8]>
+        ensures { option_copied result ≡ file_at self.now.files name.now }
+    {
+        match find(&self.files, name) {
+            None => None,
+            Some(content) => Some(content.as_slice()),
         }
     }
-}
 
-ghost use Rattle.etx_outside.specs.Memory.{files_in};
-
-/// What the last file of this name holds.
-fn find<'a>(files: &'a [MemFile], name: &[u8]) -> Option<&'a Bytes>
-    ensures { MatchOption result (files_in files.now name.now ≡ None) (λ b. files_in files.now name.now ≡ Some b.now) }
-{
-    let mut found = None;
-    for file in files {
-        if file.name.as_slice() == name {
-            found = Some(&file.bytes);
-        }
+    /// The names that loads asked for, in order.
+    pub fn names_asked(&self) -> &[Bytes]
+        ensures { result.now ≡ self.now.asked }
+    {
+        self.asked.as_slice()
     }
-    found
-}
 
-/// Puts a file in, in place of those of its name.
-fn put_file(
-    alloc: Global,
-    files: &mut Vec<MemFile>,
-    name: &[u8],
-    bytes: Bytes,
-) -> Result<(), AllocError>
-    ensures ok { OnOk result (files_in files.new.items ≡ put name.now bytes (files_in files.old.items)) }
-    ensures err { OnErr result (files.new.items ≡ files.old.items) }
-{
-    let name = Bytes::from_slice(alloc, name)?;
-    files.push(MemFile { name, bytes })?;
-    Ok(())
-}
+    /// How many calls were made, up to 2^64-1.
+    pub fn calls(&self) -> u64
+        ensures { result ≡ self.now.calls }
+    {
+        self.calls
+    }
 
-/// Adds bytes to the file of this name.
-fn add_to_file(
-    alloc: Global,
-    files: &mut Vec<MemFile>,
-    name: &[u8],
-    more: &[u8],
-) -> Result<(), AllocError>
-    requires { IsSome (files_in files.old.items name.now) }
-    ensures ok { OnOk result (files_in files.new.items ≡ files_after (bytes_to name.now more.now) (files_in files.old.items)) }
-    ensures err { OnErr result (files.new.items ≡ files.old.items) }
-{
-    match find(files, name) {
-        None => Ok(()),
-        Some(old) => {
-            let mut content = Bytes::from_slice(alloc, old.as_slice())?;
-            content.extend_from_slice(more)?;
-            put_file(alloc, files, name, content)?;
-            Ok(())
-        }
+    /// How many loads failed, up to 2^64-1.
+    pub fn read_faults(&self) -> u64
+        ensures { result ≡ self.now.read_faults }
+    {
+        self.read_faults
+    }
+
+    /// How many creations and additions failed, up to 2^64-1.
+    pub fn write_faults(&self) -> u64
+        ensures { result ≡ self.now.write_faults }
+    {
+        self.write_faults
     }
 }
 
 impl Tree for MemTree {
     ghost tells = { ⊤ };
 
-    ghost files = { λ t. files_in t.files.items };
+    ghost files = { λ t. file_at t.files };
 
-    ghost asked = { λ t. t.asked.items };
+    ghost asked = { λ t. t.asked };
 
-    ghost is_open = { λ t q. IsSome (files_in t.files.items q) };
+    ghost is_open = { λ t q. IsSome (file_at t.files q) };
 
     ghost faults = { λ t. record { reads = t.read_faults; writes = t.write_faults } };
 
-    fn load(&mut self, alloc: Global, name: &[u8]) -> Result<Loaded, TreeFault> {
+    fn load(&mut self, alloc: Global, name: &[u8]) -> Result<Loaded, TreeFault>
+        ensures loaded { IfOk result (λ loaded. (is_failing self.old.failing self.old.calls ≡ false)
+            × (loaded ≡ load_of (file_at self.old.files name.now)) × (self.new ≡ tree_asked name.now self.old)) }
+        ensures failed { IsErrOf result TreeFault.Failed →
+            (is_failing self.old.failing self.old.calls ≡ true) × (self.new ≡ with_read_fault (tree_asked name.now self.old)) }
+        ensures out_of_memory { IsErrOf result TreeFault.OutOfMemory → self.new ≡ self.old }
+        ensures reads_later { self.old.read_faults ≤ self.new.read_faults }
+        ensures writes_later { self.old.write_faults ≤ self.new.write_faults }
+    {
         let asked = Bytes::from_slice(alloc, name)?;
-        self.calls = self.calls.saturating_add(1);
-        self.asked.push(asked)?;
-        if is_listed(&self.failing, self.calls) {
+        let number = self.calls.saturating_add(1);
+        if self.failing.contains(&number) {
+            self.asked.push(asked)?;
+            self.calls = number;
             self.read_faults = self.read_faults.saturating_add(1);
             return Err(TreeFault::Failed);
         }
-        match find(&self.files, name) {
-            None => Ok(Loaded::Absent),
-            Some(bytes) => {
-                if bytes.as_slice().len() > GREATEST_FILE {
-                    Ok(Loaded::TooLong)
-                } else {
-                    Ok(Loaded::Contents(Bytes::from_slice(alloc, bytes.as_slice())?))
-                }
-            }
-        }
+        let loaded = read(alloc, &self.files, name)?;
+        self.asked.push(asked)?;
+        self.calls = number;
+        Ok(loaded)
     }
 
-    fn create(&mut self, alloc: Global, name: &[u8]) -> Result<(), TreeFault> {
-        self.calls = self.calls.saturating_add(1);
-        if is_listed(&self.failing, self.calls) {
+    fn create(&mut self, alloc: Global, name: &[u8]) -> Result<(), TreeFault>
+        ensures created { OnOk result ((is_failing self.old.failing self.old.calls ≡ false)
+            × (self.new ≡ tree_written (with_file name.now [] self.old.files) self.old)) }
+        ensures failed { IsErrOf result TreeFault.Failed →
+            (is_failing self.old.failing self.old.calls ≡ true) × (self.new ≡ with_write_fault (tree_written self.old.files self.old)) }
+        ensures out_of_memory { IsErrOf result TreeFault.OutOfMemory → self.new ≡ self.old }
+        ensures reads_later { self.old.read_faults ≤ self.new.read_faults }
+        ensures writes_later { self.old.write_faults ≤ self.new.write_faults }
+    {
+        let number = self.calls.saturating_add(1);
+        if self.failing.contains(&number) {
+            self.calls = number;
             self.write_faults = self.write_faults.saturating_add(1);
             return Err(TreeFault::Failed);
         }
-        put_file(alloc, &mut self.files, name, Bytes::new(alloc))?;
+        put(alloc, &mut self.files, name, Bytes::new(alloc))?;
+        self.calls = number;
         Ok(())
     }
 
-    fn append(&mut self, alloc: Global, name: &[u8], bytes: &[u8]) -> Result<(), TreeFault> {
-        self.calls = self.calls.saturating_add(1);
-        let fails = is_listed(&self.failing, self.calls);
-        let kept = if fails { bytes.len() / 2 } else { bytes.len() };
-        add_to_file(alloc, &mut self.files, name, &bytes[..kept])?;
-        if fails {
+    /// Adds all of the bytes, or the first half of them, rounded down, where the number of the call is listed.
+    fn append(&mut self, _alloc: Global, name: &[u8], bytes: &[u8]) -> Result<(), TreeFault>
+        requires { IsSome (file_at self.old.files name.now) }
+        ensures appended { OnOk result ((is_failing self.old.failing self.old.calls ≡ false)
+            × (self.new ≡ tree_written (with_more name.now bytes.now self.old.files) self.old)) }
+        ensures failed { IsErrOf result TreeFault.Failed →
+            (is_failing self.old.failing self.old.calls ≡ true)
+            × (self.new ≡ with_write_fault (tree_written (with_more name.now (half bytes.now) self.old.files) self.old)) }
+        ensures out_of_memory { IsErrOf result TreeFault.OutOfMemory → self.new ≡ self.old }
+        ensures reads_later { self.old.read_faults ≤ self.new.read_faults }
+        ensures writes_later { self.old.write_faults ≤ self.new.write_faults }
+    {
+        let number = self.calls.saturating_add(1);
+        if self.failing.contains(&number) {
+            add(&mut self.files, name, &bytes[..bytes.len() / 2])?;
+            self.calls = number;
             self.write_faults = self.write_faults.saturating_add(1);
             return Err(TreeFault::Failed);
         }
-        Ok(())
-    }
-}
-
-impl Terminal for MemTerminal {
-    ghost tells = { ⊤ };
-
-    ghost text = { λ t. t.text };
-
-    ghost faults = { λ t. t.faults };
-
-    fn say(&mut self, alloc: Global, bytes: &[u8]) -> Result<(), TermFault> {
-        self.calls = self.calls.saturating_add(1);
-        if is_listed(&self.failing, self.calls) {
-            self.text.extend_from_slice(&bytes[..bytes.len() / 2])?;
-            self.faults = self.faults.saturating_add(1);
-            return Err(TermFault::Failed);
-        }
-        self.text.extend_from_slice(bytes)?;
+        add(&mut self.files, name, bytes)?;
+        self.calls = number;
         Ok(())
     }
 }

@@ -5,9 +5,12 @@ ghost use Rattle.etx_outside.specs.declared.terminal.TermFault.TheVariants.{OutO
 
 use std::alloc::{AllocError, Global};
 
+/// Why a call of a terminal did not say all that was asked.
 #[derive(Clone, Copy, Debug, PartialEq, Eq)]
 pub enum TermFault {
+    /// The terminal failed to write. The count of such faults rose.
     Failed,
+    /// Memory was wanted.
     OutOfMemory,
 }
 
@@ -19,8 +22,13 @@ impl From<AllocError> for TermFault {
     }
 }
 
+/// A terminal, on which text is said.
+///
+/// Whether a terminal tells what was said belongs to its type, so no call changes it. The count of faults is read from
+/// each terminal: it never falls and stops at 2^64-1, and it rose in a call where it is greater afterwards or stands
+/// at 2^64-1 afterwards.
 pub trait Terminal {
-    /// Holds for a kind of terminal whose text is known.
+    /// Holds for a type of terminals whose text is known.
     ghost tells: { Type 0 };
 
     /// What was said.
@@ -29,6 +37,11 @@ pub trait Terminal {
     /// How often it failed.
     ghost faults: { Self → ℕ };
 
+    /// Says these bytes.
+    ///
+    /// - `ok`, `err`: all of the bytes are said; after an `Err`, so many of the first.
+    /// - `later`: the count of faults does not fall.
+    /// - `cause`: it fails only where the count of faults rose.
     fn say(&mut self, alloc: Global, bytes: &[u8]) -> Result<(), TermFault>
         ensures ok { OnOk result (tells → text self.new ≡ text self.old ++ bytes.now) }
         ensures err { OnErr result (tells → (n : ℕ) × (text self.new ≡ text self.old ++ take n bytes.now)) }
