@@ -1,0 +1,5 @@
+pub mod Bare
+pub mod Laws
+pub mod Shorter
+pub mod Walks
+pub mod Words
