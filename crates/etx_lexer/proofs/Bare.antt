@@ -1,5 +1,5 @@
 -- Characters that begin no front.
-use Rattle.std.proofs.Common.{◌≡◌, ◌≢◌, ℕ, Bool, true, false, eqb, List, [], ◌∷◌, Option, Some, None, refl, sym, ◌∙◌, ap, arith}
+use Rattle.std.proofs.Common.{◌≡◌, ◌≢◌, ℕ, ◌<◌, length, Bool, true, false, eqb, List, [], ◌∷◌, Option, Some, None, refl, sym, ◌∙◌, ap, arith}
 use Rattle.std.proofs.lemmas.Bool.Decides.{nat_tests}
 use Rattle.etx_lexer.specs.Fronts.{is_front, front_of}
 use Rattle.etx_lexer.specs.Classes.{class_of}
@@ -33,3 +33,10 @@ bare_letter cats c rest h = bare_by_cat cats c rest (ap (λ n. eqb n 7) h)
 -- a space begins no front
 pub bare_space : (cats : ℕ → ℕ) (c : ℕ) (rest : List ℕ) → cats c ≡ 10 → front_of cats (c ∷ rest) ≡ None
 bare_space cats c rest h = bare_by_cat cats c rest (ap (λ n. eqb n 7) h)
+
+-- a character behind which fewer than two stand begins no front
+pub bare_short : (cats : ℕ → ℕ) (c : ℕ) (rest : List ℕ) → length rest < 2 → front_of cats (c ∷ rest) ≡ None
+unfolding front_of
+bare_short cats c [] h = refl
+bare_short cats c (d ∷ []) h = refl
+bare_short cats c (d ∷ e ∷ rest) h = absurd (omega arith)

@@ -94,7 +94,7 @@ fn front_at<C: CatOf>(line: &[u8], code: u8, at: usize, cats: &C) -> Option<Fron
 }
 
 /// The next character where `code` stands before byte `at`: one front after another is replaced.
-pub(crate) fn first_from<C: CatOf>(line: &[u8], code: u8, at: usize, cats: &C) -> First
+pub(crate) fn first_from<C: CatOf>(line: &[u8], mut code: u8, mut at: usize, cats: &C) -> First
     requires { at ≤ length line.now }
     ensures first { first_of (C.category cats.now) (code ∷ drop at line.now)
         ≡ Some (record { code = result.code; rest = drop result.next line.now }) }
@@ -103,8 +103,6 @@ pub(crate) fn first_from<C: CatOf>(line: &[u8], code: u8, at: usize, cats: &C) -
     ensures forward { at ≤ result.next }
     ensures in_line { result.next ≤ length line.now }
 {
-    let mut code = code;
-    let mut at = at;
     while let Some(front) = front_at(line, code, at, cats) {
         code = front.code;
         at = front.next;
@@ -114,4 +112,17 @@ pub(crate) fn first_from<C: CatOf>(line: &[u8], code: u8, at: usize, cats: &C) -
         cat: cats.cat(code),
         next: at,
     }
+}
+
+/// The next character from byte `at` of a line on. `None` exactly where no byte is left.
+pub(crate) fn first_in<C: CatOf>(line: &[u8], at: usize, cats: &C) -> Option<First>
+    ensures { let found = first_of (C.category cats.now) (drop at line.now) in
+        MatchOption result (found ≡ None)
+            (λ f. (found ≡ Some (record { code = f.code; rest = drop f.next line.now }))
+                × (f.cat ≡ C.category cats.now f.code) × (f.cat ≤ 15) × (at < f.next) × (f.next ≤ length line.now)) }
+{
+    if at >= line.len() {
+        return None;
+    }
+    Some(first_from(line, line[at], at + 1, cats))
 }

@@ -6,7 +6,7 @@ ghost use Rattle.etx_lexer.specs.Classes.{class_of};
 ghost use Rattle.etx_lexer.specs.Reading.{first_of};
 
 use crate::categories::{Class, class_in};
-use crate::front::{First, first_from};
+use crate::front::{First, first_from, first_in};
 use crate::name::read_name;
 use crate::place::place_at;
 use crate::{CatOf, Lexed, LinePlace, LineState};
@@ -32,7 +32,7 @@ impl Model for Line {
 }
 
 /// The bytes without the spaces at their end.
-fn trim<'a>(bytes: &'a [u8]) -> &'a [u8]
+fn trim(bytes: &[u8]) -> &[u8]
     ensures { result.now ≡ trimmed bytes.now }
 {
     let mut end = bytes.len();
@@ -60,14 +60,11 @@ fn first_at<C: CatOf>(line: &[u8], place: LinePlace, cats: &C) -> Option<First>
         (λ f. (found ≡ Some (record { code = f.code; rest = drop f.next line.now }))
         × (f.cat ≡ C.category cats.now f.code) × (f.cat ≤ 15) × (f.next ≤ length line.now)) }
 {
-    let at = (place.at as usize).min(line.len());
-    if let Some(head) = place.head {
-        return Some(first_from(line, head, at, cats));
+    let at = place.at as usize;
+    match place.head {
+        Some(head) => Some(first_from(line, head, at.min(line.len()), cats)),
+        None => first_in(line, at, cats),
     }
-    if at == line.len() {
-        return None;
-    }
-    Some(first_from(line, line[at], at + 1, cats))
 }
 
 /// Whether a character of this class gives nothing in this state.
@@ -146,6 +143,28 @@ fn lex_first<C: CatOf>(
     }
 }
 
+/// What is lexed next at a place of a line, and the place behind it.
+fn lex_at<C: CatOf>(
+    alloc: Global,
+    line: &[u8],
+    mut place: LinePlace,
+    cats: &C,
+) -> Result<(Lexed, LinePlace), AllocError>
+    requires { length line.now ≤ 1073741824 }
+    ensures value { IfOk result (λ r. lexed_of (C.category cats.now) (rest_of line.now place) place.state
+        ≡ lex r.0 (rest_of line.now r.1) r.1.state) }
+    ensures category { IfOk result (λ r. HasCategory r.0) }
+{
+    while let Some(first) = first_at(line, place, cats) {
+        let class = class_in(first.cat);
+        if !is_skipped(class, place.state) {
+            return lex_first(alloc, line, class, first, place.state, cats);
+        }
+        place = place_at(None, first.next, place.state);
+    }
+    Ok((Lexed::LineEnd, place_at(None, line.len(), place.state)))
+}
+
 impl Line {
     /// A line of a file: its bytes without the spaces (byte 32) at their end, and then the character `endline`, if that
     /// is 0 to 255.
@@ -175,15 +194,6 @@ impl Line {
         ensures shorter { IfOk result (λ r. IsShorter (rest_of self.now r.1) (rest_of self.now place)) }
         ensures category { IfOk result (λ r. HasCategory r.0) }
     {
-        let line = self.bytes.as_slice();
-        let mut place = place;
-        while let Some(first) = first_at(line, place, cats) {
-            let class = class_in(first.cat);
-            if !is_skipped(class, place.state) {
-                return lex_first(alloc, line, class, first, place.state, cats);
-            }
-            place = place_at(None, first.next, place.state);
-        }
-        Ok((Lexed::LineEnd, place_at(None, line.len(), place.state)))
+        lex_at(alloc, self.bytes.as_slice(), place, cats)
     }
 }

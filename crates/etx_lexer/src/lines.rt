@@ -1,5 +1,5 @@
 // The lines of a text.
-ghost use Rattle.std.specs.Prelude.{◌≡◌, ◌<◌, ◌≤◌, ◌-◌, MatchOption, None, Some, length, take, drop, ◌==◌, option_map, position};
+ghost use Rattle.std.specs.Prelude.{◌≡◌, ◌<◌, ◌≤◌, ◌-◌, MatchOption, None, Some, length, take, drop, ◌==◌, position, IfSome};
 ghost use Rattle.etx_lexer.specs.Splitting.{Split, first_line, split_at, without_return};
 
 /// The byte that ends a line.
@@ -14,6 +14,27 @@ pub struct LineSpan {
     pub start: usize,
     pub end: usize,
     pub next: usize,
+}
+
+/// The index of the first byte that ends a line.
+fn line_end(text: &[u8]) -> Option<usize>
+    ensures value { result ≡ position (λ b. b == 10) text.now }
+    ensures within { IfSome result (λ k. k < length text.now) }
+{
+    text.iter().position(|b| *b == NEW_LINE)
+}
+
+/// The length of a line without one byte 13 at its end.
+fn kept_length(line: &[u8]) -> usize
+    ensures value { take result line.now ≡ without_return line.now }
+    ensures small { result ≤ length line.now }
+{
+    let length = line.len();
+    if length > 0 && line[length - 1] == RETURN {
+        length - 1
+    } else {
+        length
+    }
 }
 
 /// The first line of what is left of a text from a byte on. `None` exactly where nothing is left.
@@ -31,18 +52,16 @@ pub fn next_line(text: &[u8], from: usize) -> Option<LineSpan>
         return None;
     }
     let rest = &text[from..];
-    let Some(length) = rest.iter().position(|b| *b == NEW_LINE) else {
-        return Some(LineSpan {
+    match line_end(rest) {
+        None => Some(LineSpan {
             start: from,
             end: text.len(),
             next: text.len(),
-        });
-    };
-    let end = from + length;
-    let returned = length > 0 && text[end - 1] == RETURN;
-    Some(LineSpan {
-        start: from,
-        end: if returned { end - 1 } else { end },
-        next: end + 1,
-    })
+        }),
+        Some(length) => Some(LineSpan {
+            start: from,
+            end: from + kept_length(&rest[..length]),
+            next: from + length + 1,
+        }),
+    }
 }

@@ -3,7 +3,7 @@ ghost use Rattle.std.specs.Prelude.{◌≡◌, ◌≤◌, ◌++◌, ◌∷◌, I
 ghost use Rattle.etx_lexer.specs.Names.{word_of, name_of, named_at};
 ghost use Rattle.etx_lexer.specs.Places.{rest_of, behind_head};
 
-use crate::front::{First, first_from};
+use crate::front::{First, first_in};
 use crate::place::place_at;
 use crate::{CatOf, LinePlace, LineState};
 use etx_lists::Bytes;
@@ -15,9 +15,9 @@ const SPACE: u8 = 10;
 
 /// Adds the letters from byte `at` on to a name, and gives the place behind them.
 fn read_word<C: CatOf>(
-    name: Bytes,
+    mut name: Bytes,
     line: &[u8],
-    at: usize,
+    mut at: usize,
     cats: &C,
 ) -> Result<(Bytes, LinePlace), AllocError>
     requires within { at ≤ length line.now }
@@ -25,20 +25,14 @@ fn read_word<C: CatOf>(
     ensures { IfOk result (λ r. let word = word_of (C.category cats.now) (drop at line.now) in
         (r.0 ≡ name ++ word.letters) × (rest_of line.now r.1 ≡ word.rest) × (r.1.state ≡ LineState.Skipping)) }
 {
-    let mut name = name;
-    let mut at = at;
-    while at < line.len() {
-        let first = first_from(line, line[at], at + 1, cats);
+    while let Some(first) = first_in(line, at, cats) {
         if first.cat != LETTER {
-            return Ok((
-                name,
-                place_at(Some(first.code), first.next, LineState::Skipping),
-            ));
+            return Ok((name, place_at(Some(first.code), first.next, LineState::Skipping)));
         }
         name.push(first.code)?;
         at = first.next;
     }
-    Ok((name, place_at(None, at, LineState::Skipping)))
+    Ok((name, place_at(None, line.len(), LineState::Skipping)))
 }
 
 /// The name that begins with this character.
@@ -79,9 +73,8 @@ pub(crate) fn read_name<C: CatOf>(
     ensures { IfOk result (λ r. name_of (C.category cats.now) (drop at line.now)
         ≡ record { name = r.0; rest = rest_of line.now r.1; state = r.1.state }) }
 {
-    if at == line.len() {
-        return Ok((Bytes::new(alloc), place_at(None, at, LineState::Middle)));
+    match first_in(line, at, cats) {
+        None => Ok((Bytes::new(alloc), place_at(None, line.len(), LineState::Middle))),
+        Some(first) => read_from(alloc, line, first, cats),
     }
-    let first = first_from(line, line[at], at + 1, cats);
-    read_from(alloc, line, first, cats)
 }
