@@ -1,5 +1,5 @@
 -- The ends of lines: the spaces and the byte 13 that are dropped there.
-use Rattle.std.proofs.Common.{◌≡◌, ◌≢◌, ℕ, ◌+◌, ◌-◌, ◌<◌, ◌≤◌, true, false, eqb, cond, List, [], ◌∷◌, ◌++◌, length, get_or, take, refl, sym, ◌∙◌, ap, subst, arith}
+use Rattle.std.proofs.Common.{◌≡◌, ◌≢◌, ℕ, zero, suc, ◌+◌, ◌-◌, ◌<◌, ◌≤◌, true, false, eqb, cond, List, [], ◌∷◌, ◌++◌, length, get_or, take, refl, sym, ◌∙◌, ap, subst, arith}
 use Rattle.std.proofs.lemmas.Bool.{ne_eqb}
 use Rattle.std.proofs.lemmas.List.{take_more}
 use Rattle.etx_lexer.specs.Places.{before_trimmed, trimmed}
@@ -35,9 +35,10 @@ pub trim_stop : (xs : List ℕ) (n : ℕ) → 0 < n → n ≤ length xs → get_
 trim_stop xs n above within h =
     ap trimmed (take_last xs n above within) ∙ trimmed-other (take (n - 1) xs) (get_or xs (n - 1) 0) h ∙ sym (take_last xs n above within)
 
-pub trim_nothing : (xs : List ℕ) → trimmed (take 0 xs) ≡ take 0 xs
+pub trim_nothing : (xs : List ℕ) (n : ℕ) → n ≤ 0 → trimmed (take n xs) ≡ take n xs
 unfolding trimmed
-trim_nothing xs = refl
+trim_nothing xs zero h = refl
+trim_nothing xs (suc n) h = absurd (omega arith)
 
 without-return : (xs : List ℕ) → without_return (xs ++ 13 ∷ []) ≡ xs
 unfolding without_return

@@ -10,4 +10,4 @@ loop-end-preserved c = (omega (arith, c.loop-end.invariant.0), c.loop-end.invari
 pub returns : goal.returns
 returns c = elim c.loop-end-test.branch [
     then-loop-end-test+else-bytes-end-eq-BLANK w ↦ sym (c.loop-end.invariant.1 ∙ trim_stop c.args.bytes.now c.loop-end.end (omega arith) c.loop-end.invariant.0 w.if-bytes-end-eq-BLANK.false)
-  | else-loop-end-test w ↦ ? ]
+  | else-loop-end-test w ↦ sym (c.loop-end.invariant.1 ∙ trim_nothing c.args.bytes.now c.loop-end.end (omega arith)) ]
