@@ -1,9 +1,8 @@
 -- Characters that begin no front.
-use Rattle.std.proofs.Common.{◌≡◌, ◌≢◌, ℕ, ◌<◌, length, Bool, true, false, eqb, List, [], ◌∷◌, Option, Some, None, refl, sym, ◌∙◌, ap, arith}
+use Rattle.std.proofs.Common.{◌≡◌, ◌≢◌, ℕ, ◌<◌, length, true, false, eqb, List, [], ◌∷◌, None, refl, ap, arith}
 use Rattle.std.proofs.lemmas.Bool.Decides.{nat_tests}
 use Rattle.etx_lexer.specs.Fronts.{is_front, front_of}
 use Rattle.etx_lexer.specs.Classes.{class_of}
-use Rattle.etx_lexer.specs.declared.categories.Class.{Class}
 use Rattle.etx_lexer.specs.declared.categories.Class.TheVariants as class
 use Rattle.etx_lexer.proofs.Walks.{by_test}
 
@@ -22,9 +21,8 @@ class_seven n h = grind (arith, nat_tests)
 pub bare_by_class : (cats : ℕ → ℕ) (c : ℕ) (rest : List ℕ) → class_of (cats c) ≢ class.Plain → front_of cats (c ∷ rest) ≡ None
 bare_by_class cats c rest h =
     by_test (eqb (cats c) 7)
-      (λ t. absurd (h (class_seven (cats c) t)))
-      (λ f. bare_by_cat cats c rest f)
-
+    (λ t. absurd (h (class_seven (cats c) t)))
+    (λ f. bare_by_cat cats c rest f)
 
 -- a letter begins no front
 pub bare_letter : (cats : ℕ → ℕ) (c : ℕ) (rest : List ℕ) → cats c ≡ 11 → front_of cats (c ∷ rest) ≡ None

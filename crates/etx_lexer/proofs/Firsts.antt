@@ -1,17 +1,16 @@
 -- The first character of a text decides what becomes of the text.
-use Rattle.std.proofs.Common.{◌≡◌, ℕ, ◌+◌, ◌<◌, ◌≤◌, eqb, cond, List, [], ◌∷◌, length, Option, Some, None, refl, sym, ◌∙◌, ap, subst, arith}
+use Rattle.std.proofs.Common.{◌≡◌, ℕ, ◌+◌, ◌<◌, ◌≤◌, eqb, cond, List, [], ◌∷◌, length, Option, Some, None, sym, ◌∙◌, ap, subst, arith}
 use Rattle.etx_lexer.specs.Fronts.{front_of}
 use Rattle.etx_lexer.specs.Reading.{walk, First, first_of}
 use Rattle.etx_lexer.specs.Classes.{class_of}
-use Rattle.etx_lexer.specs.Names.{Word, with_letter, word_of, Named, named_at, name_of}
-use Rattle.etx_lexer.specs.Lex.{Lex, lex, lex_char, lexed_of}
+use Rattle.etx_lexer.specs.Names.{with_letter, word_of, named_at, name_of}
+use Rattle.etx_lexer.specs.Lex.{lex, lex_char, lexed_of}
 use Rattle.etx_lexer.specs.declared.place.LineState.{LineState}
 use Rattle.etx_lexer.specs.declared.place.LineState.TheVariants.{Middle}
 use Rattle.etx_lexer.specs.declared.lexed.Lexed.TheVariants.{LineEnd}
 use Rattle.etx_lexer.proofs.Walks.{each_text, walk-nil, walk-front, walk-bare}
 use Rattle.etx_lexer.proofs.Words.{word, named}
 use Rattle.etx_lexer.proofs.Shorter.{shorter_front}
-
 
 pub first-nil : (cats : ℕ → ℕ) → first_of cats [] ≡ None
 unfolding first_of

@@ -1,16 +1,15 @@
 -- The rules and the function lex each text in one way.
-use Rattle.std.proofs.Common.{◌≡◌, ◌≢◌, ℕ, ◌+◌, ◌<◌, ◌≤◌, List, [], ◌∷◌, length, Option, Some, None, refl, sym, ◌∙◌, ap, subst, arith}
+use Rattle.std.proofs.Common.{◌≡◌, ◌≢◌, ℕ, ◌≤◌, List, [], ◌∷◌, length, Some, None, refl, sym, ◌∙◌, ap, subst, arith}
 use Rattle.etx_lexer.specs.Fronts.{front_of}
 use Rattle.etx_lexer.specs.Classes.{class_of}
-use Rattle.etx_lexer.specs.Names.{Named, name_of}
-use Rattle.etx_lexer.specs.Lex.{Lexes, line_over, front, escape, paragraph, line_space, no_space, ignored, inner_space, first_space, more_space, comment, invalid, plain, Lex, lex, named_lex, at_return, at_space, lex_char, lexed_of, IsShorter, par, space}
+use Rattle.etx_lexer.specs.Lex.{Lexes, line_over, front, escape, paragraph, line_space, no_space, ignored, inner_space, first_space, more_space, comment, invalid, plain, Lex, lex, named_lex, lex_char, lexed_of, IsShorter}
 use Rattle.etx_lexer.specs.declared.categories.Class.{Class}
 use Rattle.etx_lexer.specs.declared.categories.Class.TheVariants as class
 use Rattle.etx_lexer.specs.declared.place.LineState.{LineState}
 use Rattle.etx_lexer.specs.declared.place.LineState.TheVariants.{New, Middle, Skipping}
 use Rattle.etx_lexer.specs.declared.lexed.Lexed.{Lexed}
-use Rattle.etx_lexer.specs.declared.lexed.Lexed.TheVariants.{Char, Name, LineEnd, Invalid}
-use Rattle.etx_lexer.proofs.Walks.{each_text, walk-nil, walk-front, walk-bare, no_front_none, no_front_one, no_front_two}
+use Rattle.etx_lexer.specs.declared.lexed.Lexed.TheVariants.{LineEnd}
+use Rattle.etx_lexer.proofs.Walks.{each_text, walk-nil, walk-front, walk-bare, no_front_none}
 use Rattle.etx_lexer.proofs.Bare.{bare_by_class}
 use Rattle.etx_lexer.proofs.Words.{names_of, only_name, name_is_shorter}
 use Rattle.etx_lexer.proofs.Shorter.{shorter_front}
@@ -59,7 +58,7 @@ lexes_of cats = each_text cats (λ text. (state : LineState) → Meets cats text
     (λ state. subst (Meets cats [] state) (sym (lexed-nil cats state)) line_over)
     (λ text text' h l state. subst (Meets cats text state) (sym (lexed-front cats text text' state h)) (front h (l state)))
     (λ c rest bare l state. subst (Meets cats (c ∷ rest) state) (sym (lexed-bare cats c rest state bare))
-      (class_meets (class_of (cats c)) cats c rest state (lexed_of cats rest state) refl bare (l state)))
+    (class_meets (class_of (cats c)) cats c rest state (lexed_of cats rest state) refl bare (l state)))
 
 -- the rules give what the function gives
 pub only_lexed : (cats : ℕ → ℕ) {text rest : List ℕ} {state behind : LineState} {lexed : Lexed} → Lexes cats text state lexed rest behind → lexed_of cats text state ≡ lex lexed rest behind
@@ -103,4 +102,4 @@ lexed_is_shorter cats = each_text cats (λ text. (state : LineState) → IsShort
     (λ state. rw (lexed-nil cats state) refl)
     (λ text text' h l state. rw (lexed-front cats text text' state h) (below_front cats _ text text' h (at_most _ text' (l state))))
     (λ c rest bare l state. rw (lexed-bare cats c rest state bare)
-      (omega (arith, class_is_shorter (class_of (cats c)) cats c rest state (lexed_of cats rest state) (at_most _ rest (l state)))))
+    (omega (arith, class_is_shorter (class_of (cats c)) cats c rest state (lexed_of cats rest state) (at_most _ rest (l state)))))

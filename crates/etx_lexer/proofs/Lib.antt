@@ -5,5 +5,6 @@ pub mod FirstLines
 pub mod Firsts
 pub mod Laws
 pub mod Shorter
+pub mod Texts
 pub mod Walks
 pub mod Words

@@ -1,6 +1,6 @@
 -- What a front is replaced by is shorter.
-use Rattle.std.proofs.Common.{◌≡◌, ℕ, ◌+◌, ◌<◌, ◌≤◌, Bool, true, false, ◌&&◌, List, [], ◌∷◌, length, Option, Some, None, refl, sym, ◌∙◌, ap, arith}
-use Rattle.etx_lexer.specs.Fronts.{is_hex, hex_code, shifted, is_front, replaced, front_of}
+use Rattle.std.proofs.Common.{◌≡◌, ℕ, ◌+◌, ◌≤◌, ◌&&◌, List, [], ◌∷◌, length, Some, ap, arith}
+use Rattle.etx_lexer.specs.Fronts.{is_hex, replaced, front_of}
 use Rattle.etx_lexer.proofs.Walks.{by_test, is_front_from, replaced_hex, replaced_short, replaced_last, no_front_none, no_front_one, no_front_two}
 
 replaced_is_short : (e : ℕ) (rest : List ℕ) → length (replaced e rest) ≤ length rest + 1

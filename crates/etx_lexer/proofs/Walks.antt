@@ -1,7 +1,7 @@
 -- How the walk along a text goes, and what it shows of each text.
-use Rattle.std.proofs.Common.{◌≡◌, ◌≢◌, ℕ, ◌<◌, Bool, true, false, ◌&&◌, eqb, List, [], ◌∷◌, length, Option, Some, None, cond, refl, sym, ◌∙◌, ap, subst, arith}
+use Rattle.std.proofs.Common.{◌≡◌, ℕ, Bool, true, false, ◌&&◌, List, [], ◌∷◌, Some, None, cond, refl, sym, ◌∙◌, ap}
 use Rattle.etx_lexer.specs.Fronts.{is_hex, hex_code, shifted, is_front, replaced, front_of}
-use Rattle.etx_lexer.specs.Reading.{walk_at, walk, First, first_of}
+use Rattle.etx_lexer.specs.Reading.{walk_at, walk}
 
 -- a test comes out one way or the other
 pub by_test : {A : Type 0} (b : Bool) → (b ≡ true → A) → (b ≡ false → A) → A
@@ -23,8 +23,8 @@ front_no cats c d e rest h = ap (λ b. cond b (Some (replaced e rest)) None) h
 pub is_front_from : (cats : ℕ → ℕ) (c d e : ℕ) (rest text : List ℕ) → front_of cats (c ∷ d ∷ e ∷ rest) ≡ Some text → (is_front cats c d e ≡ true) × (replaced e rest ≡ text)
 is_front_from cats c d e rest text h =
     by_test (is_front cats c d e)
-      (λ t. (t, same_some (replaced e rest) text (sym (front_yes cats c d e rest t) ∙ h)))
-      (λ f. let n = front_no cats c d e rest f in cc)
+    (λ t. (t, same_some (replaced e rest) text (sym (front_yes cats c d e rest t) ∙ h)))
+    (λ f. let n = front_no cats c d e rest f in cc)
 
 pub no_front_from : (cats : ℕ → ℕ) (c d e : ℕ) (rest : List ℕ) → front_of cats (c ∷ d ∷ e ∷ rest) ≡ None → is_front cats c d e ≡ false
 no_front_from cats c d e rest h =
@@ -62,14 +62,14 @@ module _ (cats : ℕ → ℕ) (P : List ℕ → Type 0) (nil : P []) (front : (t
   each_at c (d ∷ []) = bare c (d ∷ []) (no_front_two cats c d) (each_at d [])
   each_at c (d ∷ e ∷ []) =
       by_test (is_front cats c d e)
-        (λ t. front (c ∷ d ∷ e ∷ []) (shifted e ∷ []) (front_yes cats c d e [] t ∙ ap Some (replaced_last e)) (each_at (shifted e) []))
-        (λ n. bare c (d ∷ e ∷ []) (front_no cats c d e [] n) (each_at d (e ∷ [])))
+      (λ t. front (c ∷ d ∷ e ∷ []) (shifted e ∷ []) (front_yes cats c d e [] t ∙ ap Some (replaced_last e)) (each_at (shifted e) []))
+      (λ n. bare c (d ∷ e ∷ []) (front_no cats c d e [] n) (each_at d (e ∷ [])))
   each_at c (d ∷ e ∷ f ∷ rest) =
       by_test (is_front cats c d e)
-        (λ t. by_test (is_hex e && is_hex f)
-          (λ h. front (c ∷ d ∷ e ∷ f ∷ rest) (hex_code e f ∷ rest) (front_yes cats c d e (f ∷ rest) t ∙ ap Some (replaced_hex e f rest h)) (each_at (hex_code e f) rest))
-          (λ h. front (c ∷ d ∷ e ∷ f ∷ rest) (shifted e ∷ f ∷ rest) (front_yes cats c d e (f ∷ rest) t ∙ ap Some (replaced_short e f rest h)) (each_at (shifted e) (f ∷ rest))))
-        (λ n. bare c (d ∷ e ∷ f ∷ rest) (front_no cats c d e (f ∷ rest) n) (each_at d (e ∷ f ∷ rest)))
+      (λ t. by_test (is_hex e && is_hex f)
+      (λ h. front (c ∷ d ∷ e ∷ f ∷ rest) (hex_code e f ∷ rest) (front_yes cats c d e (f ∷ rest) t ∙ ap Some (replaced_hex e f rest h)) (each_at (hex_code e f) rest))
+      (λ h. front (c ∷ d ∷ e ∷ f ∷ rest) (shifted e ∷ f ∷ rest) (front_yes cats c d e (f ∷ rest) t ∙ ap Some (replaced_short e f rest h)) (each_at (shifted e) (f ∷ rest))))
+      (λ n. bare c (d ∷ e ∷ f ∷ rest) (front_no cats c d e (f ∷ rest) n) (each_at d (e ∷ f ∷ rest)))
 
   pub each_text : (text : List ℕ) → P text
   each_text [] = nil
@@ -87,8 +87,8 @@ module _ {A : Type 0} (cats : ℕ → ℕ) (stop : A) (step : ℕ → List ℕ �
       let far : A = cond (is_hex e && is_hex f) (walk_at cats stop step (hex_code e f) rest) (walk_at cats stop step (shifted e) (f ∷ rest)) in
       ap (λ b. cond b far (step c (d ∷ e ∷ f ∷ rest) (walk_at cats stop step d (e ∷ f ∷ rest)))) t
       ∙ by_test (is_hex e && is_hex f)
-          (λ h. ap (λ b. cond b (walk_at cats stop step (hex_code e f) rest) (walk_at cats stop step (shifted e) (f ∷ rest))) h ∙ sym (ap (λ b. walk cats stop step (cond b (hex_code e f ∷ rest) (shifted e ∷ f ∷ rest))) h))
-          (λ h. ap (λ b. cond b (walk_at cats stop step (hex_code e f) rest) (walk_at cats stop step (shifted e) (f ∷ rest))) h ∙ sym (ap (λ b. walk cats stop step (cond b (hex_code e f ∷ rest) (shifted e ∷ f ∷ rest))) h))
+      (λ h. ap (λ b. cond b (walk_at cats stop step (hex_code e f) rest) (walk_at cats stop step (shifted e) (f ∷ rest))) h ∙ sym (ap (λ b. walk cats stop step (cond b (hex_code e f ∷ rest) (shifted e ∷ f ∷ rest))) h))
+      (λ h. ap (λ b. cond b (walk_at cats stop step (hex_code e f) rest) (walk_at cats stop step (shifted e) (f ∷ rest))) h ∙ sym (ap (λ b. walk cats stop step (cond b (hex_code e f ∷ rest) (shifted e ∷ f ∷ rest))) h))
 
   walk_on : (c d e : ℕ) (rest : List ℕ) → is_front cats c d e ≡ false → walk cats stop step (c ∷ d ∷ e ∷ rest) ≡ step c (d ∷ e ∷ rest) (walk cats stop step (d ∷ e ∷ rest))
   unfolding walk walk_at

@@ -1,5 +1,5 @@
 -- The rules and the functions read names in one way.
-use Rattle.std.proofs.Common.{◌≡◌, ◌≢◌, ℕ, ◌<◌, ◌≤◌, Bool, true, false, eqb, List, [], ◌∷◌, length, Option, Some, None, cond, refl, sym, ◌∙◌, ap, subst, arith}
+use Rattle.std.proofs.Common.{◌≡◌, ◌≢◌, ℕ, ◌≤◌, eqb, List, [], ◌∷◌, length, Some, None, cond, refl, sym, ◌∙◌, ap, subst, arith}
 use Rattle.std.proofs.lemmas.Bool.{eqb-true, eqb-false, eq-eqb, ne_eqb}
 use Rattle.etx_lexer.specs.Fronts.{front_of}
 use Rattle.etx_lexer.specs.Names.{Letters, letters_over, letters_front, letter, letters_end, Names, no_name, name_front, control_word, control_space, control_symbol, Word, with_letter, word_of, Named, named_at, name_of}
@@ -48,8 +48,8 @@ letters_of cats = each_text cats (λ text. IsRun cats text (word_of cats text))
     (subst (IsRun cats []) (sym (word-nil cats)) letters_over)
     (λ text text' h run. subst (IsRun cats text) (sym (word-front cats text text' h)) (letters_front h run))
     (λ c rest bare run. by_test (eqb (cats c) 11)
-      (λ t. subst (IsRun cats (c ∷ rest)) (sym (word-letter cats c rest (eqb-true (cats c) 11 t))) (letter (eqb-true (cats c) 11 t) run))
-      (λ f. subst (IsRun cats (c ∷ rest)) (sym (word-other cats c rest bare (eqb-false (cats c) 11 f))) (letters_end bare (eqb-false (cats c) 11 f))))
+    (λ t. subst (IsRun cats (c ∷ rest)) (sym (word-letter cats c rest (eqb-true (cats c) 11 t))) (letter (eqb-true (cats c) 11 t) run))
+    (λ f. subst (IsRun cats (c ∷ rest)) (sym (word-other cats c rest bare (eqb-false (cats c) 11 f))) (letters_end bare (eqb-false (cats c) 11 f))))
 
 -- the rules give what the function gives
 pub only_letters : (cats : ℕ → ℕ) {text letters rest : List ℕ} → Letters cats text letters rest → word_of cats text ≡ word letters rest
@@ -64,8 +64,8 @@ word_is_shorter cats = each_text cats (λ text. length (word_of cats text).rest 
     (rw word-nil (omega arith))
     (λ text text' h shorter. rw (word-front cats text text' h) (omega (arith, shorter_front cats text text' h)))
     (λ c rest bare shorter. by_test (eqb (cats c) 11)
-      (λ t. rw (word-letter cats c rest (eqb-true (cats c) 11 t)) (omega arith))
-      (λ f. rw (word-other cats c rest bare (eqb-false (cats c) 11 f)) (omega arith)))
+    (λ t. rw (word-letter cats c rest (eqb-true (cats c) 11 t)) (omega arith))
+    (λ f. rw (word-other cats c rest bare (eqb-false (cats c) 11 f)) (omega arith)))
 
 pub name-nil : (cats : ℕ → ℕ) → name_of cats [] ≡ named [] [] Middle
 unfolding name_of
@@ -98,9 +98,9 @@ name_at : (cats : ℕ → ℕ) (c : ℕ) (rest : List ℕ) → front_of cats (c 
 name_at cats c rest bare = by_test (eqb (cats c) 11)
     (λ t. subst (IsName cats (c ∷ rest)) (sym (named-letter cats c rest (eqb-true (cats c) 11 t))) (control_word (eqb-true (cats c) 11 t) (letters_of cats rest)))
     (λ f. by_test (eqb (cats c) 10)
-      (λ t. subst (IsName cats (c ∷ rest)) (sym (named-space cats c rest (eqb-true (cats c) 10 t))) (control_space (eqb-true (cats c) 10 t)))
-      (λ g. subst (IsName cats (c ∷ rest)) (sym (named-symbol cats c rest (eqb-false (cats c) 11 f) (eqb-false (cats c) 10 g)))
-        (control_symbol bare (eqb-false (cats c) 11 f) (eqb-false (cats c) 10 g))))
+    (λ t. subst (IsName cats (c ∷ rest)) (sym (named-space cats c rest (eqb-true (cats c) 10 t))) (control_space (eqb-true (cats c) 10 t)))
+    (λ g. subst (IsName cats (c ∷ rest)) (sym (named-symbol cats c rest (eqb-false (cats c) 11 f) (eqb-false (cats c) 10 g)))
+    (control_symbol bare (eqb-false (cats c) 11 f) (eqb-false (cats c) 10 g))))
 
 -- the function meets the rules
 pub names_of : (cats : ℕ → ℕ) (text : List ℕ) → IsName cats text (name_of cats text)
@@ -123,8 +123,8 @@ named_is_shorter : (cats : ℕ → ℕ) (c : ℕ) (rest : List ℕ) → length (
 named_is_shorter cats c rest = by_test (eqb (cats c) 11)
     (λ t. rw (named-letter cats c rest (eqb-true (cats c) 11 t)) (word_is_shorter cats rest))
     (λ f. by_test (eqb (cats c) 10)
-      (λ t. rw (named-space cats c rest (eqb-true (cats c) 10 t)) (omega arith))
-      (λ g. rw (named-symbol cats c rest (eqb-false (cats c) 11 f) (eqb-false (cats c) 10 g)) (omega arith)))
+    (λ t. rw (named-space cats c rest (eqb-true (cats c) 10 t)) (omega arith))
+    (λ g. rw (named-symbol cats c rest (eqb-false (cats c) 11 f) (eqb-false (cats c) 10 g)) (omega arith)))
 
 -- no more is left behind a name than there was
 pub name_is_shorter : (cats : ℕ → ℕ) (text : List ℕ) → length (name_of cats text).rest ≤ length text

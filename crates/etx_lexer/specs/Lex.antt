@@ -1,5 +1,5 @@
 -- What is lexed of a text, in a state of the lexer.
-use Rattle.std.specs.Prelude.{◌≡◌, ℕ, ◌<◌, ◌≤◌, Bool, true, false, List, [], ◌∷◌, length, Option, Some, None}
+use Rattle.std.specs.Prelude.{◌≡◌, ℕ, ◌<◌, ◌≤◌, Bool, true, false, List, [], ◌∷◌, length, Some, None}
 use Rattle.etx_lexer.specs.Fronts.{front_of}
 use Rattle.etx_lexer.specs.Reading.{walk}
 use Rattle.etx_lexer.specs.Names.{Names, Named, name_of}

@@ -1,5 +1,5 @@
 -- The name of a control sequence, which begins behind its escape character.
-use Rattle.std.specs.Prelude.{◌≡◌, ◌≢◌, ℕ, List, [], ◌∷◌, Option, Some, None, ◌==◌, if◌then◌else◌}
+use Rattle.std.specs.Prelude.{◌≡◌, ◌≢◌, ℕ, List, [], ◌∷◌, Some, None, ◌==◌, if◌then◌else◌}
 use Rattle.etx_lexer.specs.Fronts.{front_of}
 use Rattle.etx_lexer.specs.Reading.{walk}
 use Rattle.etx_lexer.specs.declared.place.LineState.{LineState}

@@ -118,8 +118,8 @@ pub(crate) fn first_from<C: CatOf>(line: &[u8], mut code: u8, mut at: usize, cat
 pub(crate) fn first_in<C: CatOf>(line: &[u8], at: usize, cats: &C) -> Option<First>
     ensures { let found = first_of (C.category cats.now) (drop at line.now) in
         MatchOption result (found ≡ None)
-            (λ f. (found ≡ Some (record { code = f.code; rest = drop f.next line.now }))
-                × (f.cat ≡ C.category cats.now f.code) × (f.cat ≤ 15) × (at < f.next) × (f.next ≤ length line.now)) }
+        (λ f. (found ≡ Some (record { code = f.code; rest = drop f.next line.now }))
+        × (f.cat ≡ C.category cats.now f.code) × (f.cat ≤ 15) × (at < f.next) × (f.next ≤ length line.now)) }
 {
     if at >= line.len() {
         return None;

@@ -27,7 +27,10 @@ fn read_word<C: CatOf>(
 {
     while let Some(first) = first_in(line, at, cats) {
         if first.cat != LETTER {
-            return Ok((name, place_at(Some(first.code), first.next, LineState::Skipping)));
+            return Ok((
+                name,
+                place_at(Some(first.code), first.next, LineState::Skipping),
+            ));
         }
         name.push(first.code)?;
         at = first.next;
@@ -74,7 +77,10 @@ pub(crate) fn read_name<C: CatOf>(
         ≡ record { name = r.0; rest = rest_of line.now r.1; state = r.1.state }) }
 {
     match first_in(line, at, cats) {
-        None => Ok((Bytes::new(alloc), place_at(None, line.len(), LineState::Middle))),
+        None => Ok((
+            Bytes::new(alloc),
+            place_at(None, line.len(), LineState::Middle),
+        )),
         Some(first) => read_from(alloc, line, first, cats),
     }
 }

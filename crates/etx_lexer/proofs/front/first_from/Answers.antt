@@ -1,5 +1,5 @@
 -- A front is replaced until there is none.
-use Rattle.std.proofs.Common.{sym, ◌∙◌, ◌≤◌, arith}
+use Rattle.std.proofs.Common.{sym, ◌∙◌, arith}
 use Rattle.etx_lexer.proofs.Firsts.{first-front, first-bare}
 use Rattle.etx_lexer.proofs.front.first_from.Goals as goal
 

@@ -1,5 +1,5 @@
 -- Past the end nothing is left.
-use Rattle.std.proofs.Common.{◌≤◌, ap, ◌∙◌}
+use Rattle.std.proofs.Common.{ap, ◌∙◌}
 use Rattle.std.proofs.lemmas.List.{drop_all}
 use Rattle.etx_lexer.specs.Reading.{first_of}
 use Rattle.etx_lexer.proofs.Firsts.{first-nil}

@@ -1,6 +1,6 @@
 -- Fewer than three characters are no front.
 use Rattle.etx_lexer.proofs.Bare.{bare_short}
-use Rattle.std.proofs.Common.{length, drop, ◌<◌, arith, length-drop}
+use Rattle.std.proofs.Common.{drop, arith, length-drop}
 use Rattle.etx_lexer.proofs.front.front_at.Goals as goal
 
 pub returns-then-line-at-lt2 : goal.returns-then-line-at-lt2

@@ -1,5 +1,5 @@
 -- The number is the code of a character exactly from 0 to 255.
-use Rattle.std.proofs.Common.{◌≡◌, ◌∷◌, ℤ, pos, ◌<ℤ◌, ◌≤ℤ◌, inl, inr, ap, ◌∙◌, refl, arith}
+use Rattle.std.proofs.Common.{pos, ◌<ℤ◌, ◌≤ℤ◌, inl, inr, arith}
 use mir.Syntax.{w32}
 use mir.Val.{SFits}
 use Rattle.std.proofs.lemmas.Int.{ints, to_z-of_z}
@@ -18,5 +18,6 @@ pub returns-else-endline-ge0 : goal.returns-else-endline-ge0
 returns-else-endline-ge0 c =
     let fits : SFits w32 c.args.endline = c.ranges.endline in
     elim c.else-endline-ge0.branch [
-      else-endline-ge0-via-then-endline-ge0+else-endline-lt256 w ↦ end_none c.args.endline (inr (grind (arith, ints)))
-    | else-endline-ge0-via-else-endline-ge0 w ↦ end_none c.args.endline (inl (grind (arith, ints))) ]
+      | else-endline-ge0-via-then-endline-ge0+else-endline-lt256 w ↦ end_none c.args.endline (inr (grind (arith, ints)))
+      | else-endline-ge0-via-else-endline-ge0 w ↦ end_none c.args.endline (inl (grind (arith, ints)))
+    ]

@@ -1,5 +1,5 @@
 -- What is left of the text, and its first byte 10.
-use Rattle.std.proofs.Common.{◌≤◌, length, take, arith, sym, ◌∙◌, length-take}
+use Rattle.std.proofs.Common.{◌≤◌, ◌-◌, length, take, drop, arith, sym, length-take}
 use Rattle.etx_lexer.proofs.FirstLines.{no_line, last_line, ended_line}
 use Rattle.etx_lexer.proofs.lines.next_line.Goals as goal
 
@@ -11,5 +11,6 @@ returns-in-None-clause-line c = last_line c.args.text.now c.args.from c.if-from-
 
 pub returns-in-Some-clause-line : goal.returns-in-Some-clause-line
 returns-in-Some-clause-line c =
-    let v = c.kept_length.ensures.value in
-    let s = c.kept_length.ensures.small in ?
+    let left = take (length c.args.text.now - c.args.from) (drop c.args.from c.args.text.now) in
+    let small : c.kept_length.result ≤ c.in-Some.length = omega (arith, c.kept_length.ensures.small, length-take c.in-Some.length left) in
+    ended_line c.args.text.now c.args.from c.in-Some.length c.kept_length.result c.if-from-text.false (sym c.in-Some.ensures.value) c.kept_length.ensures.value small
