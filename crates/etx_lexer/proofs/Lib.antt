@@ -1,0 +1,10 @@
+pub mod Bare
+pub mod EndCharacters
+pub mod Ends
+pub mod FirstLines
+pub mod Firsts
+pub mod Laws
+pub mod Shorter
+pub mod Texts
+pub mod Walks
+pub mod Words
