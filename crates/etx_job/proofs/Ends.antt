@@ -176,16 +176,16 @@ module _ (job : Job) where
   unfolding chain
   free_ends s next zero n same light = elim (cases_end (chain job n).end) [
     | inl none ↦ elim (step_falls (chain job n) none) [
-        | inl has ↦ (suc n, has)
-        | inr on ↦ elim on.1 [ inl more ↦ next (suc n) (omega (arith, same, more)) on.0 | inr less ↦ absurd (omega (arith, less.1, light)) ]
-      ]
+      | inl has ↦ (suc n, has)
+      | inr on ↦ elim on.1 [ inl more ↦ next (suc n) (omega (arith, same, more)) on.0 | inr less ↦ absurd (omega (arith, less.1, light)) ]
+    ]
     | inr has ↦ (n, has)
   ]
   free_ends s next (suc i) n same light = elim (cases_end (chain job n).end) [
     | inl none ↦ elim (step_falls (chain job n) none) [
-        | inl has ↦ (suc n, has)
-        | inr on ↦ elim on.1 [ inl more ↦ next (suc n) (omega (arith, same, more)) on.0 | inr less ↦ free_ends s next i (suc n) (omega (arith, same, less.0)) (omega (arith, less.1, light)) ]
-      ]
+      | inl has ↦ (suc n, has)
+      | inr on ↦ elim on.1 [ inl more ↦ next (suc n) (omega (arith, same, more)) on.0 | inr less ↦ free_ends s next i (suc n) (omega (arith, same, less.0)) (omega (arith, less.1, light)) ]
+    ]
     | inr has ↦ (n, has)
   ]
 

@@ -1,6 +1,7 @@
 pub mod Chain
 pub mod Fault
 pub mod Going
+pub mod Input
 pub mod Meaning
 pub mod Measure
 pub mod Turn

@@ -7,6 +7,9 @@ use Rattle.etx_matter.specs.declared.deed.Audience.TheVariants.{LogAndTerminal}
 use Rattle.etx_matter.specs.declared.deed.Deed.TheVariants.{Error}
 use Rattle.etx_matter.specs.declared.end.End.TheVariants.{Ended, Fatal, Unbuilt}
 use Rattle.etx_matter.specs.declared.end.FatalError.TheVariants.{NoLegalEnd, FileError}
+use Rattle.etx_lexer.specs.declared.lexed.Lexed.{Lexed}
+use Rattle.etx_lexer.specs.declared.lexed.Lexed.TheVariants.{Char, Name, LineEnd, Invalid}
+use Rattle.etx_job.specs.Input.{InputState, Next, unread, next_of}
 use Rattle.etx_job.specs.declared.mouth.Mouth.{Mouth}
 use Rattle.etx_job.specs.declared.mouth.Source.{Source}
 use Rattle.etx_job.specs.declared.mouth.Source.TheVariants.{Unasked, Awaited, Absent, Refused, Reading}
@@ -44,7 +47,7 @@ line_in (Unasked name) = 0
 line_in (Awaited name) = 0
 line_in (Absent name) = 0
 line_in Refused = 0
-line_in (Reading input) = 0
+line_in (Reading input) = input.number
 
 unfoldable pub line_of : Mouth → ℕ
 line_of v = line_in v.source
@@ -61,6 +64,17 @@ name_row name =
     else if bytes_eq name (codes "end") then Done Ended
     else Done Unbuilt
 
+unfoldable pub command_row : Lexed → Yield
+command_row (Char code cat) = character_row cat
+command_row (Name name) = name_row name
+command_row LineEnd = Quiet
+command_row (Invalid code) = Done Unbuilt
+
+-- a token is got, which is a step, and carried out; a main file that is over ends the job
+abbrev pub command_turn : Option Lexed → InputState → Mouth → Turned
+command_turn None input v = turned (record v { source = Reading input }) (Done (Fatal NoLegalEnd))
+command_turn (Some got) input v = turned (record { source = Reading input; spent = v.spent + 1 }) (command_row got)
+
 abbrev pub cant_find : List ℕ → List ℕ
 cant_find name = codes "I can't find file `" ++ name ++ codes "'"
 
@@ -70,7 +84,7 @@ source_turn (Unasked name) v = turned (record v { source = Awaited name }) (Load
 source_turn (Awaited name) v = turned (record v { source = Refused }) (Done (Fatal FileError))
 source_turn (Absent name) v = turned (record v { source = Refused }) (Act (Error (cant_find name) 0 LogAndTerminal))
 source_turn Refused v = turned (record v { source = Refused }) (Done (Fatal FileError))
-source_turn (Reading input) v = turned (record { source = Refused; spent = v.spent + 1 }) Quiet
+source_turn (Reading input) v = command_turn (next_of initial_category input).got (next_of initial_category input).input v
 
 unfoldable pub turn_of : Mouth → Turned
 turn_of v = source_turn v.source v
@@ -80,7 +94,7 @@ abbrev pub source_of : Source → Loaded → Source
 source_of (Unasked name) loaded = Refused
 source_of (Awaited name) loaded.Absent = Absent name
 source_of (Awaited name) loaded.TooLong = Refused
-source_of (Awaited name) (loaded.Contents text) = Reading text
+source_of (Awaited name) (loaded.Bytes text) = Reading (unread text)
 source_of (Absent name) loaded = Refused
 source_of Refused loaded = Refused
 source_of (Reading input) loaded = Refused

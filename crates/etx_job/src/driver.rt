@@ -72,7 +72,11 @@ fn close_fatally(
 {
     let text = Bytes::from_slice(alloc, b"Emergency stop")?;
     let reason = find_reason(alloc, why)?;
-    journal.push(Deed::Error { text, line, audience: BOTH })?;
+    journal.push(Deed::Error {
+        text,
+        line,
+        audience: BOTH,
+    })?;
     print(alloc, reason.as_slice(), journal)?;
     print_last_line(alloc, journal)?;
     Ok(())

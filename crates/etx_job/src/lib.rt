@@ -6,11 +6,13 @@
 
 mod driver;
 mod fault;
+mod input;
 mod law;
 mod mouth;
 mod typeset;
 mod words;
 
+pub use input::Input;
 pub use law::each_job_has_one_meaning;
 pub use mouth::{Mouth, Source, Yield};
 pub use typeset::typeset_alone;

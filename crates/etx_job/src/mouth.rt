@@ -1,8 +1,11 @@
 //! The mouth of a job: it reads the main file, and one turn handles one token.
 ghost use Rattle.std.specs.Prelude.{◌≡◌, ◌≤◌, ◌<◌, ◌+◌, ◌^◌, IfOk, OnOk};
-ghost use Rattle.etx_job.specs.Turn.{initial_category, turn_of, opened, line_in, line_of, character_row, name_row, cant_find, source_of, resumed};
+ghost use Rattle.etx_job.specs.Turn.{initial_category, turn_of, opened, line_in, line_of, character_row, name_row, command_row, command_turn, cant_find, source_of, resumed};
+ghost use Rattle.etx_job.specs.Input.{next_of};
 ghost use Rattle.etx_job.specs.Measure.{Goes, IsNoMore};
 
+use crate::input::Input;
+use etx_lexer::{CatOf, Lexed};
 use etx_lists::Bytes;
 use etx_matter::{Audience, Deed, End, FatalError};
 use etx_outside::Loaded;
@@ -33,7 +36,7 @@ pub enum Source {
     /// The main file can't be read.
     Refused,
     /// The main file.
-    Reading(Bytes),
+    Reading(Input),
 }
 
 /// The mouth of a job, between two turns.
@@ -42,6 +45,27 @@ pub struct Mouth {
     pub source: Source,
     /// How many steps were taken.
     pub spent: u64,
+}
+
+/// The categories that INITEX gives.
+struct InitialCategories;
+
+impl CatOf for InitialCategories {
+    ghost category = { λ _ c. initial_category c };
+
+    #[tactic(auto, unfolding(crate::specs::Turn::initial_category))]
+    fn cat(&self, code: u8) -> u8 {
+        match code {
+            b'\\' => 0,
+            b'A'..=b'Z' | b'a'..=b'z' => 11,
+            b' ' => 10,
+            b'\r' => 5,
+            b'%' => 14,
+            0 => 9,
+            127 => 15,
+            _ => 12,
+        }
+    }
 }
 
 fn do_character(cat: u8) -> Yield
@@ -66,6 +90,19 @@ fn do_name(name: &[u8]) -> Yield
     }
 }
 
+/// Carries out a token, in vertical mode.
+#[tactic(auto, unfolding(crate::specs::Turn::command_row))]
+fn do_command(lexed: &Lexed) -> Yield
+    ensures { result ≡ command_row lexed.now }
+{
+    match lexed {
+        Lexed::Char { cat, .. } => do_character(*cat),
+        Lexed::Name(name) => do_name(name.as_slice()),
+        Lexed::LineEnd => Yield::Quiet,
+        Lexed::Invalid(_) => Yield::Done(End::Unbuilt),
+    }
+}
+
 /// The text of the error that there is no file of this name.
 fn find_no(alloc: Global, name: &[u8]) -> Result<Bytes, AllocError>
     ensures { IfOk result (λ text. text ≡ cant_find name.now) }
@@ -82,19 +119,20 @@ impl Source {
         ensures { result ≡ line_in self.now }
     {
         match self {
-            _ => 0,
+            Source::Reading(input) => input.number(),
+            Source::Unasked(_) | Source::Awaited(_) | Source::Absent(_) | Source::Refused => 0,
         }
     }
 
     /// What is read from, once the main file was asked for and this is the answer.
-    fn answered(self, _alloc: Global, loaded: Loaded) -> Result<Source, AllocError>
+    fn answered(self, alloc: Global, loaded: Loaded) -> Result<Source, AllocError>
         ensures { IfOk result (λ source. source ≡ source_of self loaded) }
     {
         match self {
             Source::Awaited(name) => match loaded {
                 Loaded::Absent => Ok(Source::Absent(name)),
                 Loaded::TooLong => Ok(Source::Refused),
-                Loaded::Contents(text) => Ok(Source::Reading(text)),
+                Loaded::Bytes(text) => Ok(Source::Reading(Input::new(alloc, text)?)),
             },
             _ => Ok(Source::Refused),
         }
@@ -147,14 +185,11 @@ impl Mouth {
                     audience: Audience::LogAndTerminal,
                 }))
             }
-            Source::Reading(_) => {
-                self.spent += 1;
-                Ok(Yield::Quiet)
-            }
+            Source::Reading(input) => self.read(alloc, input),
         }
     }
 
-    /// Takes the answer of a load.
+    /// Takes the answer of a load. After an `Err` the mouth is only dropped.
     #[tactic(auto, unfolding(crate::specs::Turn::resumed))]
     pub fn resume(&mut self, alloc: Global, loaded: Loaded) -> Result<(), AllocError>
         ensures now { OnOk result (self.new ≡ resumed self.old loaded) }
@@ -163,5 +198,22 @@ impl Mouth {
         let source = std::mem::replace(&mut self.source, Source::Refused);
         self.source = source.answered(alloc, loaded)?;
         Ok(())
+    }
+
+    /// Gets a token of the main file, and carries it out.
+    fn read(&mut self, alloc: Global, mut input: Input) -> Result<Yield, AllocError>
+        requires { self.old.spent + 1 < 2 ^ 64 }
+        ensures now { OnOk result (self.new ≡ (command_turn (next_of initial_category input).got (next_of initial_category input).input self.old).now) }
+        ensures did { IfOk result (λ did. did ≡ (command_turn (next_of initial_category input).got (next_of initial_category input).input self.old).did) }
+    {
+        let got = input.next(alloc, &InitialCategories)?;
+        self.source = Source::Reading(input);
+        match got {
+            None => Ok(Yield::Done(End::Fatal(FatalError::NoLegalEnd))),
+            Some(lexed) => {
+                self.spent += 1;
+                Ok(do_command(&lexed))
+            }
+        }
     }
 }

@@ -25,7 +25,8 @@ pub fn find_file(alloc: Global, words: &[String]) -> Result<Option<Bytes>, Alloc
     ensures { IfOk result (λ file. file ≡ file_asked (map string_bytes words.now)) }
 {
     match words {
-        [command, file] if command.as_bytes() == b"alone".as_slice() && is_file_word(file.as_bytes()) => {
+        [command, file]
+            if command.as_bytes() == b"alone".as_slice() && is_file_word(file.as_bytes()) => {
             let name = etx_outside::names::with_extension(alloc, file.as_bytes(), b".tex")?;
             Ok(Some(name))
         }
