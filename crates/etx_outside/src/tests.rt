@@ -22,7 +22,11 @@ fn assert_loads(rt: &impl Abort, loaded: Result<Loaded, TreeFault>, content: &[u
 #[test]
 fn of_two_files_with_one_name_the_last_counts(rt: HostRuntime) -> Result<(), Fail> {
     let alloc = rt.alloc();
-    let files = vec![in alloc; file(alloc, b"a", b"x")?, file(alloc, b"b", b"y")?, file(alloc, b"a", b"z")?]?;
+    let files = vec![in alloc;
+        file(alloc, b"a", b"x")?,
+        file(alloc, b"b", b"y")?,
+        file(alloc, b"a", b"z")?,
+    ]?;
     let mut tree = MemTree::new(alloc, files, Vec::new(alloc))?;
     assert_eq!(rt; tree.file(b"a"), Some(b"z".as_slice()));
     assert_loads(&rt, tree.load(alloc, b"a"), b"z");
@@ -31,7 +35,10 @@ fn of_two_files_with_one_name_the_last_counts(rt: HostRuntime) -> Result<(), Fai
     assert!(rt; tree.file(b"c").is_none());
     assert_eq!(rt; tree.names_asked().len(), 3);
     assert_eq!(rt; tree.names_asked()[2].as_slice(), b"c".as_slice());
-    assert_eq!(rt; (tree.calls(), tree.read_faults(), tree.write_faults()), (3, 0, 0));
+    assert_eq!(rt;
+        (tree.calls(), tree.read_faults(), tree.write_faults()),
+        (3, 0, 0)
+    );
     Ok(())
 }
 
@@ -45,7 +52,10 @@ fn calls_whose_numbers_are_listed_fail(rt: HostRuntime) -> Result<(), Fail> {
     assert_eq!(rt; tree.create(alloc, b"log"), Err(TreeFault::Failed));
     assert_eq!(rt; tree.file(b"log"), Some(b"old".as_slice()));
     if tree.file(b"log").is_some() {
-        assert_eq!(rt; tree.append(alloc, b"log", b"abcde"), Err(TreeFault::Failed));
+        assert_eq!(rt;
+            tree.append(alloc, b"log", b"abcde"),
+            Err(TreeFault::Failed)
+        );
     }
     assert_eq!(rt; tree.file(b"log"), Some(b"oldab".as_slice()));
     if tree.file(b"log").is_some() {
@@ -54,7 +64,10 @@ fn calls_whose_numbers_are_listed_fail(rt: HostRuntime) -> Result<(), Fail> {
     assert_eq!(rt; tree.file(b"log"), Some(b"oldabfg".as_slice()));
     tree.create(alloc, b"log").map_err(|_| "create")?;
     assert_eq!(rt; tree.file(b"log"), Some(b"".as_slice()));
-    assert_eq!(rt; (tree.calls(), tree.read_faults(), tree.write_faults()), (5, 1, 2));
+    assert_eq!(rt;
+        (tree.calls(), tree.read_faults(), tree.write_faults()),
+        (5, 1, 2)
+    );
     Ok(())
 }
 
@@ -75,7 +88,10 @@ fn the_longest_file_is_loaded(rt: HostRuntime) -> Result<(), Fail> {
     let alloc = rt.alloc();
     let longest = vec![in alloc; b'x'; LONGEST_FILE]?;
     let longer = vec![in alloc; b'x'; LONGEST_FILE + 1]?;
-    let files = vec![in alloc; (b"a".to_vec(alloc)?, longest), (b"b".to_vec(alloc)?, longer)]?;
+    let files = vec![in alloc;
+        (b"a".to_vec(alloc)?, longest),
+        (b"b".to_vec(alloc)?, longer),
+    ]?;
     let mut tree = MemTree::new(alloc, files, Vec::new(alloc))?;
     match tree.load(alloc, b"a") {
         Ok(Loaded::Bytes(bytes)) => assert_eq!(rt; bytes.len(), 16_777_216),
@@ -101,9 +117,18 @@ fn names_are_good_or_not(rt: HostRuntime) -> Result<(), Fail> {
 #[test]
 fn names_have_extensions_and_jobs(rt: HostRuntime) -> Result<(), Fail> {
     let alloc = rt.alloc();
-    assert_eq!(rt; with_extension(alloc, b"story", b".tex")?.as_slice(), b"story.tex".as_slice());
-    assert_eq!(rt; with_extension(alloc, b"a.b", b".tex")?.as_slice(), b"a.b".as_slice());
-    assert_eq!(rt; with_extension(alloc, b"", b".tfm")?.as_slice(), b".tfm".as_slice());
+    assert_eq!(rt;
+        with_extension(alloc, b"story", b".tex")?.as_slice(),
+        b"story.tex".as_slice()
+    );
+    assert_eq!(rt;
+        with_extension(alloc, b"a.b", b".tex")?.as_slice(),
+        b"a.b".as_slice()
+    );
+    assert_eq!(rt;
+        with_extension(alloc, b"", b".tfm")?.as_slice(),
+        b".tfm".as_slice()
+    );
     assert_eq!(rt; job_name(b"a.b.tex"), b"a.b".as_slice());
     assert_eq!(rt; job_name(b"story"), b"story".as_slice());
     assert_eq!(rt; job_name(b".tex"), b"".as_slice());
@@ -116,8 +141,16 @@ fn the_current_folder_is_a_tree(rt: HostRuntime) -> Result<(), Fail> {
     let alloc = rt.alloc();
     let name = b"etx_outside_test.tmp".as_slice();
     let mut tree = RealTree::new(&rt);
-    assert_eq!(rt; tree.append(alloc, b"etx_outside_none.tmp", b"a"), Err(TreeFault::Failed));
-    assert!(rt; matches!(tree.load(alloc, b"etx_outside_none.tmp"), Ok(Loaded::Absent)));
+    assert_eq!(rt;
+        tree.append(alloc, b"etx_outside_none.tmp", b"a"),
+        Err(TreeFault::Failed)
+    );
+    assert!(rt;
+        matches!(
+            tree.load(alloc, b"etx_outside_none.tmp"),
+            Ok(Loaded::Absent)
+        )
+    );
     assert_eq!(rt; tree.create(alloc, name), Ok(()));
     assert_eq!(rt; tree.append(alloc, name, b"one "), Ok(()));
     assert_eq!(rt; tree.append(alloc, name, b"two"), Ok(()));
