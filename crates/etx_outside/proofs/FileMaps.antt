@@ -1,14 +1,14 @@
 -- Files in memory: a list of them as a map, and a map as what each name's file holds.
-use Rattle.std.proofs.Common.{◌≡◌, ◌≢◌, ◌<◌, ◌+◌, ℕ, zero, suc, List, [], ◌∷◌, ◌++◌, length, get_or, set, map, Option, Some, None, IsSome, unwrap_or, Bool, true, false, cond, nat_eq, refl, sym, ◌∙◌, ap, subst, inl, inr, arith}
+use Rattle.std.proofs.Common.{◌≡◌, ◌≢◌, ℕ, zero, suc, List, [], ◌∷◌, ◌++◌, get_or, set, map, Option, Some, None, IsSome, unwrap_or, Bool, true, false, cond, refl, sym, ◌∙◌, ap, subst, inl, inr, arith}
 use Rattle.std.proofs.lemmas.Bool.{cases_Bool}
 use Rattle.std.proofs.lemmas.List.{map-append}
 use Rattle.std.proofs.lemmas.Slice.Eq.{bytes_eq-Decides}
 use Rattle.std.specs.List.{All}
 use Rattle.std.specs.Ordering.{nat_cmp, eq_by_cmp}
 use Rattle.std.specs.Cmp.{unsigned_ties}
-use Rattle.std.specs.Cmp.Lexicographic.{pointwise, slice_cmp, lists_ties, nat_list_cmp_total}
-use Rattle.std.specs.FinMap.{find, get, insert, from_entries, get-insert, get-from_entries, from_entries_push, same_map, slice_cmp-IsAntisymmetric, nat_cmp-IsAntisymmetric}
-use Rattle.etx_outside.specs.Entries.{Files, Made, put, files_after, bytes_to}
+use Rattle.std.specs.Cmp.Lexicographic.{slice_cmp, lists_ties, nat_list_cmp_total}
+use Rattle.std.specs.FinMap.{find, get-insert, get-from_entries, from_entries_push, same_map, slice_cmp-IsAntisymmetric, nat_cmp-IsAntisymmetric}
+use Rattle.etx_outside.specs.Entries.{put, files_after, bytes_to}
 use Rattle.etx_outside.specs.Memory.{FileMap, file_at, file_map, with_file, with_more, with_all, IsFirstNamed}
 use Rattle.etx_outside.proofs.Put.{same, grown}
 
@@ -87,8 +87,8 @@ pub file_map-set : (files : List File) (name : List ℕ) (i : ℕ) (key new : Li
 file_map-set files name i key new is first =
     same_map nat_list_cmp_total (slice_cmp-IsAntisymmetric nat_cmp-IsAntisymmetric) _ _
     (λ q. get-from_entries nat_list_cmp_total (set files i (key, new)) q ∙ find-set q files name i key new is first
-      ∙ ap (cond (tied q name) (Some new)) (sym (get-from_entries nat_list_cmp_total files q))
-      ∙ sym (get-insert nat_list_cmp_total (file_map files) name new q))
+    ∙ ap (cond (tied q name) (Some new)) (sym (get-from_entries nat_list_cmp_total files q))
+    ∙ sym (get-insert nat_list_cmp_total (file_map files) name new q))
 
 -- a file of a new name
 pub file_map_push : (files : List File) (name bytes : List ℕ) → All (λ f. f.0 ≢ name) files → file_map (files ++ (name, bytes) ∷ []) ≡ with_file name bytes (file_map files)
@@ -109,6 +109,7 @@ file_at-with_file files name bytes = λ i q. at q i
       | inl equal ↦ tied_equal q name (sym ((bytes_eq-Decides name q).0 equal)) ∙ sym equal
       | inr different ↦ tied_other q name (λ is. let e : same name q ≡ true = (bytes_eq-Decides name q).1 (sym is) in cc) ∙ sym different
     ]
+
     at : (q : List ℕ) → file_at (with_file name bytes files) q ≡ put name bytes (file_at files) q
     at q = get-insert nat_list_cmp_total files name bytes q ∙ ap (λ b. cond b (Some bytes) (file_at files q)) (turned q)
 

@@ -1,6 +1,6 @@
 -- First entries of histories.
-use Rattle.std.proofs.Common.{◌≡◌, ℕ, zero, suc, ◌+◌, List, [], ◌∷◌, ◌++◌, map, take, drop, refl, sym, ◌∙◌, ap, append_assoc, arith}
-use Rattle.etx_outside.specs.Entries.{Entry, Made, Byte, Shown, History, Files, files_after, said, shown, bytes_to}
+use Rattle.std.proofs.Common.{◌≡◌, ℕ, zero, suc, List, [], ◌∷◌, ◌++◌, map, take, drop, refl, ap}
+use Rattle.etx_outside.specs.Entries.{Entry, said, shown}
 
 pub map_parts : (f : ℕ → Entry) (n : ℕ) (xs : List ℕ) → map f (take n xs) ++ map f (drop n xs) ≡ map f xs
 map_parts f zero xs = refl

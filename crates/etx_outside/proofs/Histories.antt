@@ -1,6 +1,6 @@
 -- The files and the text after a history in two parts.
-use Rattle.std.proofs.Common.{◌≡◌, ℕ, List, [], ◌∷◌, ◌++◌, Option, Some, None, map, refl, sym, ◌∙◌, ap, append_assoc}
-use Rattle.etx_outside.specs.Entries.{Entry, Asked, Made, Byte, Shown, History, Files, put, add_to, files_after, said, asked_in, shown, bytes_to}
+use Rattle.std.proofs.Common.{◌≡◌, ℕ, List, [], ◌∷◌, ◌++◌, refl, ap}
+use Rattle.etx_outside.specs.Entries.{Asked, Made, Byte, Shown, History, Files, put, add_to, files_after, said, asked_in, shown, bytes_to}
 
 pub files_after-append : (g h : History) (files : Files) → files_after (g ++ h) files ≡ files_after h (files_after g files)
 files_after-append [] h files = refl

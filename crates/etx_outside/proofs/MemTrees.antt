@@ -1,11 +1,11 @@
 -- What a creation and an addition in memory leave, in the words of the trait.
-use Rattle.std.proofs.Common.{◌≡◌, ◌⊎◌, ℕ, ◌/◌, List, [], Bool, true, false, length, take, Option, IsSome, Result, Ok, Err, OnOk, OnErr, refl, sym, ◌∙◌, ap, subst, inl, inr}
+use Rattle.std.proofs.Common.{◌≡◌, ◌⊎◌, ℕ, ◌/◌, List, [], true, false, length, take, IsSome, Result, Ok, Err, OnOk, OnErr, refl, sym, ◌∙◌, ap, subst, inl}
 use Rattle.std.specs.Prelude.{⊤, IsErrOf}
 use Rattle.std.proofs.lemmas.Result.{on_ok_weaker}
 use Rattle.etx_outside.specs.declared.tree.TreeFault.{TreeFault}
 use Rattle.etx_outside.specs.declared.tree.TreeFault.TheVariants.{Failed, OutOfMemory}
 use Rattle.etx_outside.specs.Entries.{Files, put, files_after, bytes_to}
-use Rattle.etx_outside.specs.Memory.{FileMap, TreeState, file_at, with_file, with_more, is_failing, half, tree_written, with_write_fault}
+use Rattle.etx_outside.specs.Memory.{TreeState, file_at, with_file, with_more, is_failing, half, tree_written, with_write_fault}
 use Rattle.etx_outside.proofs.Put.{put_keeps, put_same, files_after_keeps}
 use Rattle.etx_outside.proofs.FileMaps.{file_at-with_file, file_at-with_more}
 

@@ -1,9 +1,8 @@
 -- How the outside goes on.
-use Rattle.std.proofs.Common.{◌≡◌, ◌⊎◌, inl, inr, ℕ, ◌≤◌, List, [], ◌∷◌, ◌++◌, refl, sym, ◌∙◌, ap, subst, append_assoc, arith}
+use Rattle.std.proofs.Common.{◌≡◌, ℕ, List, [], ◌∷◌, ◌++◌, refl, sym, ◌∙◌, ap, append_assoc}
 use Rattle.std.proofs.lemmas.List.{append-nil}
-use Rattle.etx_outside.specs.Entries.{Files, Entry, Asked, Made, History, files_after, said, asked_in, shown, bytes_to}
-use Rattle.etx_outside.specs.Faults.{Counts, Rose}
-use Rattle.etx_outside.specs.Outside.{Outside, outside_of, after, Front, NoneFell, WriteRose, Faults}
+use Rattle.etx_outside.specs.Entries.{Files, Asked, Made, History, files_after, said, asked_in, shown}
+use Rattle.etx_outside.specs.Outside.{Outside, outside_of, after, Front}
 use Rattle.etx_outside.proofs.Fronts.{said-shown}
 use Rattle.etx_outside.proofs.Histories.{files_after-append, said-append, asked_in-append, files_after-shown, asked_in-shown}
 

@@ -1,5 +1,5 @@
 -- Names of files: which of them are good, the extension that a name gets, and the name of a job.
-use Rattle.std.specs.Prelude.{◌≡◌, ◌≢◌, ℕ, ◌≤◌, Bool, not, ◌&&◌, ◌||◌, ◌==◌, List, ◌++◌, length, All, nat_le, codes, if◌then◌else◌}
+use Rattle.std.specs.Prelude.{◌≢◌, ℕ, ◌≤◌, Bool, not, ◌&&◌, ◌||◌, ◌==◌, List, ◌++◌, length, All, nat_le, codes, if◌then◌else◌}
 use Rattle.std.specs.List.{list_any, list_all, before_last}
 use Rattle.std.specs.Str.{bytes_eq}
 

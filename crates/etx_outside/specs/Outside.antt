@@ -1,5 +1,5 @@
 -- A tree and a terminal as one value, and what a history makes of it.
-use Rattle.std.specs.Prelude.{◌≡◌, ◌⊎◌, ℕ, ◌≤◌, List, [], ◌∷◌, ◌++◌}
+use Rattle.std.specs.Prelude.{◌≡◌, ◌⊎◌, ℕ, ◌≤◌, List, ◌++◌}
 use Rattle.etx_outside.specs.Entries.{Files, History, files_after, said, asked_in}
 use Rattle.etx_outside.specs.Faults.{Counts, Rose}
 

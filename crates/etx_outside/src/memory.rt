@@ -31,12 +31,12 @@ impl Model for MemTree {
     ghost coded = { tree_code };
 
     ghost view = { λ t. record {
-        files = file_map t.files.items;
-        asked = t.asked.items;
-        failing = t.failing.items;
-        calls = t.calls;
-        read_faults = t.read_faults;
-        write_faults = t.write_faults
+      files = file_map t.files.items;
+      asked = t.asked.items;
+      failing = t.failing.items;
+      calls = t.calls;
+      read_faults = t.read_faults;
+      write_faults = t.write_faults;
     } };
 }
 

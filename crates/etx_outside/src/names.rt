@@ -46,11 +46,7 @@ pub fn is_good(name: &[u8]) -> bool
 }
 
 /// The name, with the extension if it has no full stop. An extension begins with its full stop, as `.tex`.
-pub fn with_extension(
-    alloc: Global,
-    name: &[u8],
-    extension: &[u8],
-) -> Result<Bytes, AllocError>
+pub fn with_extension(alloc: Global, name: &[u8], extension: &[u8]) -> Result<Bytes, AllocError>
     ensures { IfOk result (λ whole. whole ≡ name_with_extension name.now extension.now) }
 {
     let mut whole = Bytes::from_slice(alloc, name)?;

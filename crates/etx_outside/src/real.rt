@@ -9,13 +9,11 @@ ghost use Rattle.etx_outside.specs.Memory.{next};
 use crate::{LONGEST_FILE, Loaded, TermFault, Terminal, Tree, TreeFault};
 use etx_lists::Bytes;
 use std::alloc::{AllocError, Global};
-use std::fs;
-use std::fs::OpenFile;
-use std::fs::OpenOptions;
-use std::io;
+use std::fs::{OpenFile, OpenOptions};
 use std::io::{ErrorKind, Read, Write};
 use std::marker::Model;
 use std::rt::Files;
+use std::{fs, io};
 
 impl From<io::Error> for TreeFault {
     fn from(error: io::Error) -> Self {

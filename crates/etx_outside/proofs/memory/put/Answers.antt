@@ -1,5 +1,5 @@
 use Rattle.std.proofs.Common.{◌∙◌, ap, List, ℕ, ◌++◌, ◌∷◌, []}
-use Rattle.etx_outside.specs.Memory.{file_map, with_file}
+use Rattle.etx_outside.specs.Memory.{file_map}
 use Rattle.etx_outside.proofs.FileMaps.{written, pushed}
 use Rattle.etx_outside.proofs.memory.put.Goals as goal
 

@@ -1,4 +1,4 @@
-use Rattle.std.proofs.Common.{◌≤◌, ℕ, arith}
+use Rattle.std.proofs.Common.{arith}
 use Rattle.etx_outside.proofs.NameCuts.{job_name_whole, job_name_cut}
 use Rattle.etx_outside.proofs.names.job_name.Goals as goal
 
