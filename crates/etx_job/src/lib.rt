@@ -9,6 +9,8 @@ mod fault;
 mod input;
 mod law;
 mod mouth;
+#[cfg(test)]
+mod tests;
 mod typeset;
 mod words;
 

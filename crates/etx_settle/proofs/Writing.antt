@@ -1,5 +1,6 @@
 -- What a write of a file and the terminal makes of the outside.
-use Rattle.std.proofs.Common.{◌≡◌, ℕ, Bool, true, false, List, [], ◌∷◌, ◌++◌, take, drop, refl, sym, ◌∙◌, ap, subst, map, nat_eq}
+use Rattle.etx_matter.specs.declared.deed.Audience.{Audience}
+use Rattle.std.proofs.Common.{◌≡◌, ℕ, Bool, true, false, List, [], ◌∷◌, ◌++◌, length, arith, take, drop, refl, sym, ◌∙◌, ap, subst, map, nat_eq}
 use Rattle.std.proofs.lemmas.List.{append-nil}
 use Rattle.std.proofs.lemmas.Bool.{cases_Bool}
 use Rattle.std.proofs.lemmas.Slice.Eq.{bytes_eq-Decides}
@@ -11,7 +12,7 @@ use Rattle.etx_outside.specs.Outside.{Outside, outside_of, after, Front}
 use Rattle.etx_outside.proofs.Fronts.{map_parts}
 use Rattle.etx_outside.proofs.Histories.{said-bytes_to, asked_in-bytes_to}
 use Rattle.etx_outside.proofs.Outsides.{after-nil, after-append, front_behind, front_longer, front_all, wrote, told}
-use Rattle.etx_settle.specs.Deeds.{is_among, to_file, written_by, when, AllOpen}
+use Rattle.etx_settle.specs.Deeds.{PenState, is_among, log_of, is_shown_to, to_file, written_by, text_written, when, AllOpen}
 
 silent : (created : List (List ℕ)) (name bytes : List ℕ) → said (to_file created name bytes) ≡ []
 silent created name bytes = elim (is_among name created) as (λ b. said (when b (bytes_to name bytes)) ≡ []) [ true ↦ said-bytes_to name bytes | false ↦ refl ]
@@ -82,3 +83,15 @@ all_open_more is_open (n ∷ names) name old new q is = elim (cases_Bool (pointw
     or_right : (a b : Bool) → b ≡ true → (a || b) ≡ true
     or_right true b h = refl
     or_right false b h = h
+
+-- an empty text is no entries
+pub entries-empty : (p : PenState) (text : List ℕ) (who : Audience) → length text ≡ 0 → (text_written p text who).entries ≡ []
+unfolding text_written
+entries-empty p [] who none = by (is_among (log_of p.created) p.created) (is_shown_to who)
+  where
+    by : (a b : Bool) → when a [] ++ when b [] ≡ []
+    by true true = refl
+    by true false = refl
+    by false true = refl
+    by false false = refl
+entries-empty p (b ∷ text) who some = absurd (omega (arith, some))

@@ -127,7 +127,7 @@ impl Pen {
         }
     }
 
-    /// Writes a text.
+    /// Writes a text. Of an empty one nothing is asked of the tree and the terminal.
     #[tactic(auto, unfolding(crate::specs::Deeds::text_written))]
     fn write_text<F: Tree, T: Terminal>(
         &mut self,
@@ -147,6 +147,9 @@ impl Pen {
         ensures later { NoneFell (faults_of F.faults T.faults tree.old terminal.old) (faults_of F.faults T.faults tree.new terminal.new) }
         ensures cause { IsErrOf result FlushFault.WriteFault → WriteRose (faults_of F.faults T.faults tree.old terminal.old) (faults_of F.faults T.faults tree.new terminal.new) }
     {
+        if text.is_empty() {
+            return Ok(());
+        }
         let log = find_log(&self.created);
         write(
             alloc,

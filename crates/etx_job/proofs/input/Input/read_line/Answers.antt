@@ -19,9 +19,9 @@ returns-in_ok-line-in-Some c =
     let line = take (span.end - span.start) (drop span.start text) in
     let lines = lines_of (drop span.next text) in
     let there : first_line (drop c.self.inside.next text) ≡ Some (record { line = line; rest = drop span.next text }) =
-        ap (λ (t : List ℕ). first_line (drop c.self.inside.next t)) (sym c.as_slice-text.ensures.same)
-        ∙ c.in-Some.ensures.line
-        ∙ ap (λ (t : List ℕ). Some (record { line = take (span.end - span.start) (drop span.start t); rest = drop span.next t })) c.as_slice-text.ensures.same in
+    ap (λ (t : List ℕ). first_line (drop c.self.inside.next t)) (sym c.as_slice-text.ensures.same)
+    ∙ c.in-Some.ensures.line
+    ∙ ap (λ (t : List ℕ). Some (record { line = take (span.end - span.start) (drop span.start t); rest = drop span.next t })) c.as_slice-text.ensures.same in
     let read = ap (λ (p : LinePlace). rest_of c.in_ok-line-in-Some.line p) c.start-self-inside.ensures ∙ c.in_ok-line-in-Some.ensures ∙ ap (λ (t : List ℕ). line_of (take (span.end - span.start) (drop span.start t)) end_of_line_code) c.as_slice-text.ensures.same in
     let state = ap (λ (p : LinePlace). p.state) c.start-self-inside.ensures in
     let number = ap (λ (v : InputState). v.number + 1) c.self.view_is in (

@@ -1,0 +1,203 @@
+//! Jobs over a tree and a terminal in memory: what each writes, says and answers.
+use crate::typeset_alone;
+use etx_matter::Status;
+use etx_outside::{MemTerminal, MemTree};
+use std::alloc::{AllocError, Global};
+use std::test::Fail;
+
+/// What a call left behind.
+#[derive(Drop)]
+struct Left {
+    status: Status,
+    tree: MemTree,
+    terminal: MemTerminal,
+}
+
+fn words_of(alloc: Global, words: &[&str]) -> Result<Vec<String>, AllocError> {
+    let mut all = Vec::new(alloc);
+    for word in words {
+        all.push(String::from_str(alloc, *word)?)?;
+    }
+    Ok(all)
+}
+
+/// Calls over a folder that holds `job.tex` alone, with these calls of the tree and of the terminal failing.
+fn call_failing(
+    alloc: Global,
+    words: &[&str],
+    source: &[u8],
+    of_tree: &[u64],
+    of_terminal: &[u64],
+) -> Result<Left, AllocError> {
+    let words = words_of(alloc, words)?;
+    let files = vec![in alloc; (b"job.tex".to_vec(alloc)?, source.to_vec(alloc)?)]?;
+    let mut tree = MemTree::new(alloc, files, of_tree.to_vec(alloc)?)?;
+    let mut terminal = MemTerminal::new(alloc, of_terminal.to_vec(alloc)?)?;
+    let status = typeset_alone(alloc, &words, &mut tree, &mut terminal);
+    Ok(Left {
+        status,
+        tree,
+        terminal,
+    })
+}
+
+/// Calls over a folder that holds `job.tex` alone.
+fn call(alloc: Global, words: &[&str], source: &[u8]) -> Result<Left, AllocError> {
+    call_failing(alloc, words, source, &[], &[])
+}
+
+impl Left {
+    fn has_file(&self, name: &[u8], content: &[u8]) -> bool {
+        match self.tree.file(name) {
+            Some(bytes) => bytes == content,
+            None => false,
+        }
+    }
+
+    /// Whether the answer, the log and the terminal are these.
+    fn is(&self, status: Status, log: &[u8], transcript: &[u8]) -> bool {
+        self.status == status
+            && self.has_file(log, transcript)
+            && self.terminal.text() == transcript
+    }
+}
+
+const NO_PAGES: &[u8] = b"No pages of output.\n";
+
+const NO_END_AT_0: &[u8] =
+    b"! Emergency stop.\nl.0\n*** (job aborted, no legal \\end found)\nNo pages of output.\n";
+
+const NO_END_AT_2: &[u8] =
+    b"! Emergency stop.\nl.2\n*** (job aborted, no legal \\end found)\nNo pages of output.\n";
+
+const UNBUILT: &[u8] = b"*** (not built yet)\nNo pages of output.\n";
+
+const NO_FILE: &[u8] =
+    b"! I can't find file `nofile.tex'.\nl.0\n! Emergency stop.\nl.0\n*** (job aborted, file error in nonstop mode)\nNo pages of output.\n";
+
+const TOO_LONG: &[u8] =
+    b"! Emergency stop.\nl.0\n*** (job aborted, file error in nonstop mode)\nNo pages of output.\n";
+
+const USAGE: &[u8] = b"usage: etx run|alone [--workers N] [--steps N] FILE, etx gen N\n";
+
+#[test]
+fn an_end_gives_no_pages(rt: HostRuntime) -> Result<(), Fail> {
+    let alloc = rt.alloc();
+    let left = call(alloc, &["alone", "job"], b"\\end")?;
+    assert!(rt; left.is(Status::Clean, b"job.log", NO_PAGES));
+    assert!(rt; left.tree.file(b"job.dvi").is_none());
+    let named = call(
+        alloc,
+        &["alone", "job.tex"],
+        b"% a comment\n  \n\\relax\n\\par \\end not read",
+    )?;
+    assert!(rt; named.is(Status::Clean, b"job.log", NO_PAGES));
+    Ok(())
+}
+
+#[test]
+fn a_source_may_lack_its_end(rt: HostRuntime) -> Result<(), Fail> {
+    let alloc = rt.alloc();
+    let empty = call(alloc, &["alone", "job"], b"")?;
+    assert!(rt; empty.is(Status::Stopped, b"job.log", NO_END_AT_0));
+    let two = call(alloc, &["alone", "job"], b"\\relax\r\n% the last line")?;
+    assert!(rt; two.is(Status::Stopped, b"job.log", NO_END_AT_2));
+    Ok(())
+}
+
+#[test]
+fn a_source_may_be_absent_or_too_long(rt: HostRuntime) -> Result<(), Fail> {
+    let alloc = rt.alloc();
+    let absent = call(alloc, &["alone", "nofile"], b"\\end")?;
+    assert!(rt; absent.is(Status::Stopped, b"nofile.log", NO_FILE));
+    let long = vec![in alloc; b'%'; 16_777_217]?;
+    let refused = call(alloc, &["alone", "job"], &long)?;
+    assert!(rt; refused.is(Status::Stopped, b"job.log", TOO_LONG));
+    Ok(())
+}
+
+#[test]
+fn what_is_not_built_ends_the_job(rt: HostRuntime) -> Result<(), Fail> {
+    let alloc = rt.alloc();
+    for source in [
+        b"\\relax x\\end".as_slice(),
+        b"{",
+        b"\\message{}",
+        b"\\ \\end",
+        b"\x7f\\end",
+        b"\\",
+        b"~",
+    ] {
+        let left = call(alloc, &["alone", "job"], source)?;
+        assert!(rt; left.is(Status::Stopped, b"job.log", UNBUILT));
+    }
+    Ok(())
+}
+
+#[test]
+fn a_job_has_the_name_of_its_file(rt: HostRuntime) -> Result<(), Fail> {
+    let alloc = rt.alloc();
+    for (file, log) in [
+        ("a.b.c", b"a.b.log".as_slice()),
+        (".tex", b".log"),
+        ("x.", b"x.log"),
+    ] {
+        let left = call(alloc, &["alone", file], b"")?;
+        assert!(rt; left.status == Status::Stopped);
+        assert!(rt; left.tree.file(log).is_some());
+        assert!(rt; left.tree.names_asked().len() == 1);
+        assert!(rt; left.tree.names_asked()[0].as_slice() == file.as_bytes());
+    }
+    Ok(())
+}
+
+#[test]
+fn other_words_get_the_usage(rt: HostRuntime) -> Result<(), Fail> {
+    let alloc = rt.alloc();
+    let lists: [&[&str]; 9] = [
+        &[],
+        &["alone"],
+        &["alone", "job", "job"],
+        &["alone", "-job"],
+        &["alone", "a/b"],
+        &["alone", ".."],
+        &["job", "alone"],
+        &["run", "job"],
+        &["--help"],
+    ];
+    for words in lists {
+        let left = call(alloc, words, b"\\end")?;
+        assert!(rt; left.status == Status::Usage);
+        assert!(rt; left.terminal.text() == USAGE);
+        assert!(rt; left.tree.calls() == 0);
+    }
+    let unsaid = call_failing(alloc, &["alone"], b"\\end", &[], &[1])?;
+    assert!(rt; unsaid.status == Status::WriteFault);
+    assert!(rt; unsaid.tree.calls() == 0);
+    Ok(())
+}
+
+#[test]
+fn a_failing_call_cuts_the_history(rt: HostRuntime) -> Result<(), Fail> {
+    let alloc = rt.alloc();
+    let words = ["alone", "job"].as_slice();
+    let uncreated = call_failing(alloc, words, b"\\end", &[1], &[])?;
+    assert!(rt; uncreated.status == Status::WriteFault);
+    assert!(rt; uncreated.tree.file(b"job.log").is_none());
+    assert!(rt; uncreated.terminal.text().is_empty());
+    let unread = call_failing(alloc, words, b"\\end", &[2], &[])?;
+    assert!(rt; unread.is(Status::ReadFault, b"job.log", b""));
+    let half = call_failing(alloc, words, b"\\end", &[3], &[])?;
+    assert!(rt; half.status == Status::WriteFault);
+    assert!(rt; half.has_file(b"job.log", b"No pages o"));
+    assert!(rt; half.terminal.text().is_empty());
+    let untold = call_failing(alloc, words, b"\\end", &[], &[1])?;
+    assert!(rt; untold.status == Status::WriteFault);
+    assert!(rt; untold.has_file(b"job.log", NO_PAGES));
+    assert!(rt; untold.terminal.text() == b"No pages o".as_slice());
+    for unreached in [2, 3] {
+        let whole = call_failing(alloc, words, b"\\end", &[], &[unreached])?;
+        assert!(rt; whole.is(Status::Clean, b"job.log", NO_PAGES));
+    }
+    Ok(())
+}
