@@ -12,17 +12,17 @@ use Rattle.etx_outside.specs.Outside.{Outside, outside_of, after, Front}
 use Rattle.etx_outside.proofs.Fronts.{map_parts}
 use Rattle.etx_outside.proofs.Histories.{said-bytes_to, asked_in-bytes_to}
 use Rattle.etx_outside.proofs.Outsides.{after-nil, after-append, front_behind, front_longer, front_all, wrote, told}
-use Rattle.etx_settle.specs.Deeds.{PenState, is_among, log_of, is_shown_to, to_file, written_by, text_written, when, AllOpen}
+use Rattle.etx_settle.specs.Deeds.{PenState, is_among, log_of, is_shown_to, to_file, written_by, text_written, entries_if, AllOpen}
 
 silent : (created : List (List ℕ)) (name bytes : List ℕ) → said (to_file created name bytes) ≡ []
-silent created name bytes = elim (is_among name created) as (λ b. said (when b (bytes_to name bytes)) ≡ []) [ true ↦ said-bytes_to name bytes | false ↦ refl ]
+silent created name bytes = elim (is_among name created) as (λ b. said (entries_if b (bytes_to name bytes)) ≡ []) [ true ↦ said-bytes_to name bytes | false ↦ refl ]
 
 asks_none : (created : List (List ℕ)) (name bytes : List ℕ) → asked_in (to_file created name bytes) ≡ []
-asks_none created name bytes = elim (is_among name created) as (λ b. asked_in (when b (bytes_to name bytes)) ≡ []) [ true ↦ asked_in-bytes_to name bytes | false ↦ refl ]
+asks_none created name bytes = elim (is_among name created) as (λ b. asked_in (entries_if b (bytes_to name bytes)) ≡ []) [ true ↦ asked_in-bytes_to name bytes | false ↦ refl ]
 
 to_file_parts : (created : List (List ℕ)) (name bytes : List ℕ) (n : ℕ) → to_file created name (take n bytes) ++ to_file created name (drop n bytes) ≡ to_file created name bytes
 to_file_parts created name bytes n =
-    elim (is_among name created) as (λ b. when b (bytes_to name (take n bytes)) ++ when b (bytes_to name (drop n bytes)) ≡ when b (bytes_to name bytes)) [
+    elim (is_among name created) as (λ b. entries_if b (bytes_to name (take n bytes)) ++ entries_if b (bytes_to name (drop n bytes)) ≡ entries_if b (bytes_to name bytes)) [
       | true ↦ map_parts (λ b. Byte name b) n bytes
       | false ↦ refl
     ]
@@ -45,7 +45,7 @@ module _ {F T : Type 0} (files : F → Files) (asked : F → List (List ℕ)) (t
   pub whole_of_file : (is_shown : Bool) (old new : F) (terminal : T) → is_shown ≡ false → files new ≡ files_after (to_file created name bytes) (files old) → asked new ≡ asked old → seen new terminal ≡ after (written_by created name bytes is_shown) (seen old terminal)
   whole_of_file is_shown old new terminal unshown is same =
       wrote files asked text (to_file created name bytes) old new terminal (silent created name bytes) (asks_none created name bytes) is same
-      ∙ ap (λ (h : History). after h (seen old terminal)) (sym (ap (λ b. to_file created name bytes ++ when b (shown bytes)) unshown ∙ append-nil (to_file created name bytes)))
+      ∙ ap (λ (h : History). after h (seen old terminal)) (sym (ap (λ b. to_file created name bytes ++ entries_if b (shown bytes)) unshown ∙ append-nil (to_file created name bytes)))
 
   -- the file's part, and n bytes on the terminal
   pub front_of_both : (is_shown : Bool) (n : ℕ) (old new : F) (before now : T) → is_shown ≡ true → files new ≡ files_after (to_file created name bytes) (files old) → asked new ≡ asked old → text now ≡ text before ++ take n bytes → Front (written_by created name bytes is_shown) (seen old before) (seen new now)
@@ -89,7 +89,7 @@ pub entries-empty : (p : PenState) (text : List ℕ) (who : Audience) → length
 unfolding text_written
 entries-empty p [] who none = by (is_among (log_of p.created) p.created) (is_shown_to who)
   where
-    by : (a b : Bool) → when a [] ++ when b [] ≡ []
+    by : (a b : Bool) → entries_if a [] ++ entries_if b [] ≡ []
     by true true = refl
     by true false = refl
     by false true = refl

@@ -9,14 +9,16 @@ use Rattle.etx_matter.specs.declared.deed.Audience.TheVariants as audience
 use Rattle.etx_matter.specs.declared.deed.Deed.{Deed}
 use Rattle.etx_matter.specs.declared.deed.Deed.TheVariants.{Fresh, Space, Text, Error, Create}
 
--- what the entries of a deed depend on: the files that were created, the log first, and whether a line is at its start
+-- what a job's deeds have left so far: the files that were created, the log first, whether a line of the transcript is at
+-- its start, and whether an error was reported
 pub record PenState : Type 0 where
   pub created : List (List ℕ)
   pub at_start : Bool
+  pub has_erred : Bool
 
 -- the pen of a job that has done nothing
 abbrev pub first_pen : PenState
-first_pen = record { created = []; at_start = true }
+first_pen = record { created = []; at_start = true; has_erred = false }
 
 -- the log is the first file that was created
 abbrev pub log_of : List (List ℕ) → List ℕ
@@ -27,17 +29,17 @@ abbrev pub is_among : List ℕ → List (List ℕ) → Bool
 is_among name names = list_any (λ q. pointwise nat_eq q name) names
 
 -- these entries, where it is so
-abbrev pub when : Bool → History → History
-when true h = h
-when false h = []
+abbrev pub entries_if : Bool → History → History
+entries_if true h = h
+entries_if false h = []
 
 -- bytes for a file that was not created are no entries
 abbrev pub to_file : List (List ℕ) → List ℕ → List ℕ → History
-to_file created name bytes = when (is_among name created) (bytes_to name bytes)
+to_file created name bytes = entries_if (is_among name created) (bytes_to name bytes)
 
 -- bytes go whole to a file, and then whole to the terminal, where they are shown
 abbrev pub written_by : List (List ℕ) → List ℕ → List ℕ → Bool → History
-written_by created name bytes is_shown = to_file created name bytes ++ when is_shown (shown bytes)
+written_by created name bytes is_shown = to_file created name bytes ++ entries_if is_shown (shown bytes)
 
 abbrev pub is_shown_to : Audience → Bool
 is_shown_to audience.Log = false
@@ -72,6 +74,13 @@ text_written p text who = record {
   pen = record p { at_start = start_after p.at_start text };
 }
 
+-- an error was reported
+unfoldable pub error_reported : PenState → List ℕ → ℕ → Audience → Written
+error_reported p text line who = record {
+  entries = (text_written p (error_text p.at_start text line) who).entries;
+  pen = record (text_written p (error_text p.at_start text line) who).pen { has_erred = true };
+}
+
 unfoldable pub file_made : PenState → List ℕ → Written
 file_made p name = record { entries = Made name ∷ []; pen = record p { created = p.created ++ name ∷ [] } }
 
@@ -80,7 +89,7 @@ abbrev pub written_of : PenState → Deed → Written
 written_of p (Fresh who) = text_written p (inside_line p.at_start (codes "\n")) who
 written_of p (Space who) = text_written p (inside_line p.at_start (codes " ")) who
 written_of p (Text text who) = text_written p text who
-written_of p (Error text line who) = text_written p (error_text p.at_start text line) who
+written_of p (Error text line who) = error_reported p text line who
 written_of p (Create name) = file_made p name
 
 abbrev pub deed_entries : PenState → Deed → History

@@ -61,6 +61,14 @@ impl Journal {
         }
     }
 
+    /// Whether an error was reported by a deed that was written.
+    pub fn has_erred(&self) -> bool
+        ensures { result ≡ self.now.pen.has_erred }
+    {
+        self.pen.has_erred()
+    }
+
+    /// Lets a deed wait. After an `Err`, which is want of memory, the journal is only dropped.
     pub fn push(&mut self, deed: Deed) -> Result<(), AllocError>
         ensures { OnOk result (self.new ≡ record self.old { waiting = self.old.waiting ++ deed ∷ [] }) }
     {
@@ -68,7 +76,10 @@ impl Journal {
         Ok(())
     }
 
-    /// Writes what waits. After an `Err` the journal is only dropped.
+    /// Writes what waits, in order.
+    ///
+    /// `WriteFault` comes only where a count of faults of the tree or of the terminal rose. After an `Err` some first
+    /// entries of what waited were written, and the journal is only dropped.
     pub fn flush<F: Tree, T: Terminal>(
         &mut self,
         tree: &mut F,

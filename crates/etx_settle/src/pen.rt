@@ -3,7 +3,7 @@ ghost use Rattle.std.specs.Prelude.{◌≡◌, ◌++◌, [], Bool, List, ℕ, �
 ghost use Rattle.etx_outside.specs.Entries.{files_after, Made};
 ghost use Rattle.etx_outside.specs.Outside.{Outside, outside_of, after, Front, faults_of, NoneFell, WriteRose};
 ghost use Rattle.etx_outside.specs.Faults.{Later, Rose};
-ghost use Rattle.etx_settle.specs.Deeds.{PenState, first_pen, is_among, log_of, to_file, written_by, text_written, file_made, deed_entries, pen_after, AllOpen};
+ghost use Rattle.etx_settle.specs.Deeds.{PenState, first_pen, is_among, log_of, to_file, written_by, text_written, error_reported, file_made, deed_entries, pen_after, AllOpen};
 
 use crate::FlushFault;
 use crate::text::{error_text, inside_line, is_at_start, is_shown};
@@ -106,6 +106,7 @@ fn create<F: Tree, T: Terminal>(
 pub struct Pen {
     created: Vec<Bytes>,
     at_start: bool,
+    has_erred: bool,
 }
 
 impl Model for Pen {
@@ -113,7 +114,7 @@ impl Model for Pen {
 
     ghost Value = { PenState };
 
-    ghost view = { λ p. record { created = p.created.items; at_start = p.at_start } };
+    ghost view = { λ p. record { created = p.created.items; at_start = p.at_start; has_erred = p.has_erred } };
 }
 
 impl Pen {
@@ -124,6 +125,7 @@ impl Pen {
         Pen {
             created: Vec::new(alloc),
             at_start: true,
+            has_erred: false,
         }
     }
 
@@ -186,6 +188,40 @@ impl Pen {
         create(alloc, &mut self.created, name, tree, terminal)
     }
 
+    /// Reports an error.
+    #[tactic(auto, unfolding(crate::specs::Deeds::error_reported))]
+    fn report<F: Tree, T: Terminal>(
+        &mut self,
+        alloc: Global,
+        text: &[u8],
+        line: u32,
+        audience: Audience,
+        tree: &mut F,
+        terminal: &mut T,
+    ) -> Result<(), FlushFault>
+        requires { AllOpen (F.is_open tree.old) self.old.created }
+        ensures pen { OnOk result (self.new ≡ (error_reported self.old text.now line audience).pen) }
+        ensures ok { OnOk result (F.tells → T.tells →
+            outside_of F.files F.asked T.text tree.new terminal.new ≡ after (error_reported self.old text.now line audience).entries (outside_of F.files F.asked T.text tree.old terminal.old)) }
+        ensures front { F.tells → T.tells →
+            Front (error_reported self.old text.now line audience).entries (outside_of F.files F.asked T.text tree.old terminal.old) (outside_of F.files F.asked T.text tree.new terminal.new) }
+        ensures open { OnOk result (AllOpen (F.is_open tree.new) self.new.created) }
+        ensures later { NoneFell (faults_of F.faults T.faults tree.old terminal.old) (faults_of F.faults T.faults tree.new terminal.new) }
+        ensures cause { IsErrOf result FlushFault.WriteFault → WriteRose (faults_of F.faults T.faults tree.old terminal.old) (faults_of F.faults T.faults tree.new terminal.new) }
+    {
+        let text = error_text(alloc, self.at_start, text, line)?;
+        self.write_text(alloc, text.as_slice(), audience, tree, terminal)?;
+        self.has_erred = true;
+        Ok(())
+    }
+
+    /// Whether an error was reported.
+    pub fn has_erred(&self) -> bool
+        ensures { result ≡ self.now.has_erred }
+    {
+        self.has_erred
+    }
+
     /// Writes one deed. After an `Err` the pen is only dropped.
     pub fn settle<F: Tree, T: Terminal>(
         &mut self,
@@ -220,10 +256,7 @@ impl Pen {
                 text,
                 line,
                 audience,
-            } => {
-                let text = error_text(alloc, self.at_start, text.as_slice(), *line)?;
-                self.write_text(alloc, text.as_slice(), *audience, tree, terminal)
-            }
+            } => self.report(alloc, text.as_slice(), *line, *audience, tree, terminal),
             Deed::Create(name) => self.make_file(alloc, name.as_slice(), tree, terminal),
         }
     }
