@@ -1,14 +1,14 @@
 -- What a caller of the top call sees.
-use Rattle.std.proofs.Common.{◌≡◌, ℕ, List, [], ◌∷◌, ◌++◌, Option, Some, None, IsSome, MatchOption, refl, sym, ◌∙◌, ap, subst}
+use Rattle.std.proofs.Common.{◌≡◌, ℕ, Bool, List, [], ◌∷◌, ◌++◌, Option, Some, None, IsSome, MatchOption, refl, sym, ◌∙◌, ap, subst}
 use Rattle.etx_outside.specs.Entries.{Files, History, files_after, asked_in, said}
 use Rattle.etx_outside.specs.Outside.{Outside, outside_of, after, Front}
+use Rattle.etx_matter.specs.Jobs.{JobState}
 use Rattle.etx_matter.specs.declared.end.End.{End}
 use Rattle.etx_matter.specs.declared.end.Status.{Status}
 use Rattle.etx_matter.specs.declared.end.Status.TheVariants.{Clean, Errors, Stopped, Spent, Usage, ReadFault, WriteFault, OutOfMemory}
-use Rattle.etx_job.specs.Chain.{Job, World, IsMean}
+use Rattle.etx_job.specs.Chain.{Start, World, IsMean}
 use Rattle.etx_job.specs.Going.{IsFor, Cut, Settled}
-use Rattle.etx_job.specs.Words.{file_asked}
-use Rattle.etx_job.specs.Meaning.{Meaning, IsEnding, IsRefusal, status_of, job_over, usage, IsMeaningOfJob, IsMeaning}
+use Rattle.etx_job.specs.Meaning.{Meaning, IsEnding, IsRefusal, status_of, start_of, job_asked, usage, IsMeaningOfJob, IsMeaning}
 use Rattle.etx_job.proofs.Ends.{cut_of_mean, one_mean, mean_of}
 
 -- an end that is there
@@ -28,22 +28,18 @@ usage_of WriteFault ends refuses = absurd ends
 usage_of OutOfMemory ends refuses = absurd ends
 
 -- the meaning of words of no known form
-pub usage_meant : (words : List (List ℕ)) (files : Files) → file_asked words ≡ None → IsMeaning words files usage
-usage_meant words files none = subst (λ (o : Option (List ℕ)). MatchOption o (usage ≡ usage) (λ name. IsMeaningOfJob (job_over name files) usage)) (sym none) refl
-
--- the meaning of words that ask for a file
-pub job_meant : (words : List (List ℕ)) (files : Files) (name : List ℕ) (m : Meaning) → file_asked words ≡ Some name → IsMeaningOfJob (job_over name files) m → IsMeaning words files m
-job_meant words files name m asks is = subst (λ (o : Option (List ℕ)). MatchOption o (m ≡ usage) (λ n. IsMeaningOfJob (job_over n files) m)) (sym asks) is
+pub usage_meant : (words : List (List ℕ)) (files : Files) → job_asked words ≡ None → IsMeaning words files usage
+usage_meant words files none = subst (λ (o : Option JobState). MatchOption o (usage ≡ usage) (λ job. IsMeaningOfJob (start_of job files) usage)) (sym none) refl
 
 -- each job has a meaning, and one alone
-pub meaning_of_job : (job : Job) → (m : Meaning) × IsMeaningOfJob job m
-meaning_of_job job =
-    let mean = mean_of job in
+pub meaning_of_job : (start : Start) → (m : Meaning) × IsMeaningOfJob start m
+meaning_of_job start =
+    let mean = mean_of start in
     let end = some_end mean.0.end mean.1.has_ended in
-    (record { history = mean.0.trace; status = status_of end.0 }, record { world = mean.0; mean = mean.1; end = end.0; ends = end.1; is = refl })
+    (record { history = mean.0.trace; status = status_of end.0 mean.0.pen.has_erred }, record { world = mean.0; mean = mean.1; end = end.0; ends = end.1; is = refl })
 
 abbrev end_meaning : World → End → Meaning
-end_meaning w e = record { history = w.trace; status = status_of e }
+end_meaning w e = record { history = w.trace; status = status_of e w.pen.has_erred }
 
 same_meaning : (v w : World) (d e : End) → v ≡ w → v.end ≡ Some d → w.end ≡ Some e → end_meaning v d ≡ end_meaning w e
 same_meaning v w d e same is it_is =
@@ -51,54 +47,54 @@ same_meaning v w d e same is it_is =
     let ends : d ≡ e = cc in
     λ i. end_meaning (same i) (ends i)
 
-pub one_meaning_of_job : (job : Job) (m n : Meaning) → IsMeaningOfJob job m → IsMeaningOfJob job n → m ≡ n
-one_meaning_of_job job m n a b = a.is ∙ same_meaning a.world b.world a.end b.end (one_mean job a.world b.world a.mean b.mean) a.ends b.ends ∙ sym b.is
+pub one_meaning_of_job : (start : Start) (m n : Meaning) → IsMeaningOfJob start m → IsMeaningOfJob start n → m ≡ n
+one_meaning_of_job start m n a b = a.is ∙ same_meaning a.world b.world a.end b.end (one_mean start a.world b.world a.mean b.mean) a.ends b.ends ∙ sym b.is
 
 -- and so have words
 pub meaning_of : (words : List (List ℕ)) (files : Files) → (m : Meaning) × IsMeaning words files m
-meaning_of words files = by (file_asked words)
+meaning_of words files = by (job_asked words)
   where
-    by : (o : Option (List ℕ)) → (m : Meaning) × MatchOption o (m ≡ usage) (λ name. IsMeaningOfJob (job_over name files) m)
+    by : (o : Option JobState) → (m : Meaning) × MatchOption o (m ≡ usage) (λ job. IsMeaningOfJob (start_of job files) m)
     by None = (usage, refl)
-    by (Some name) = meaning_of_job (job_over name files)
+    by (Some job) = meaning_of_job (start_of job files)
 
 pub one_meaning : (words : List (List ℕ)) (files : Files) (m n : Meaning) → IsMeaning words files m → IsMeaning words files n → m ≡ n
-one_meaning words files m n a b = by (file_asked words) a b
+one_meaning words files m n a b = by (job_asked words) a b
   where
-    by : (o : Option (List ℕ)) → MatchOption o (m ≡ usage) (λ name. IsMeaningOfJob (job_over name files) m) → MatchOption o (n ≡ usage) (λ name. IsMeaningOfJob (job_over name files) n) → m ≡ n
+    by : (o : Option JobState) → MatchOption o (m ≡ usage) (λ job. IsMeaningOfJob (start_of job files) m) → MatchOption o (n ≡ usage) (λ job. IsMeaningOfJob (start_of job files) n) → m ≡ n
     by None is it_is = is ∙ sym it_is
-    by (Some name) is it_is = one_meaning_of_job (job_over name files) m n is it_is
+    by (Some job) is it_is = one_meaning_of_job (start_of job files) m n is it_is
 
-pub for_job : {F T : Type 0} (files : F → Files) (asked : F → List (List ℕ)) (text : T → List ℕ) (name : List ℕ) (old : F) (before : T) → IsFor (job_over name (files old)) (outside_of files asked text old before)
+pub for_start : {F T : Type 0} (files : F → Files) (asked : F → List (List ℕ)) (text : T → List ℕ) (job : JobState) (old : F) (before : T) → IsFor (start_of job (files old)) (outside_of files asked text old before)
 unfolding outside_of
-for_job files asked text name old before = refl
+for_start files asked text job old before = refl
 
-module _ {F T : Type 0} (files : F → Files) (asked : F → List (List ℕ)) (text : T → List ℕ) (name : List ℕ) (old new : F) (before now : T) where
-  abbrev job : Job
-  job = job_over name (files old)
+module _ {F T : Type 0} (files : F → Files) (asked : F → List (List ℕ)) (text : T → List ℕ) (job : JobState) (old new : F) (before now : T) where
+  abbrev start : Start
+  start = start_of job (files old)
 
   -- a job that has ended, and all of whose history was done
-  pub whole_for : (e : End) (s : Status) → Settled job e (outside_of files asked text old before) (outside_of files asked text new now) → s ≡ status_of e
-      → (m : Meaning) × IsMeaningOfJob job m × (s ≡ m.status) × (files new ≡ files_after m.history (files old)) × (asked new ≡ asked old ++ asked_in m.history) × (text now ≡ text before ++ said m.history)
+  pub whole_for : (e : End) (erred : Bool) (s : Status) → Settled start e erred (outside_of files asked text old before) (outside_of files asked text new now) → s ≡ status_of e erred
+      → (m : Meaning) × IsMeaningOfJob start m × (s ≡ m.status) × (files new ≡ files_after m.history (files old)) × (asked new ≡ asked old ++ asked_in m.history) × (text now ≡ text before ++ said m.history)
   unfolding outside_of after
-  whole_for e s settled is = (
-    record { history = settled.world.trace; status = status_of e },
+  whole_for e erred s settled is = (
+    record { history = settled.world.trace; status = status_of e settled.world.pen.has_erred },
     record { world = settled.world; mean = settled.mean; end = e; ends = settled.end_is; is = refl },
-    is,
+    is ∙ ap (status_of e) (sym settled.erred_is),
     ap (λ (o : Outside). o.files) settled.now_is,
     ap (λ (o : Outside). o.asked) settled.now_is,
     ap (λ (o : Outside). o.text) settled.now_is,
   )
 
   -- a job of whose history some first entries were done
-  pub front_for : Cut job (outside_of files asked text old before) (outside_of files asked text new now)
-      → (m : Meaning) × IsMeaningOfJob job m × ((h : History) × (rest : History) × (h ++ rest ≡ m.history) × (files new ≡ files_after h (files old)) × (asked new ≡ asked old ++ asked_in h) × (text now ≡ text before ++ said h))
+  pub front_for : Cut start (outside_of files asked text old before) (outside_of files asked text new now)
+      → (m : Meaning) × IsMeaningOfJob start m × ((h : History) × (rest : History) × (h ++ rest ≡ m.history) × (files new ≡ files_after h (files old)) × (asked new ≡ asked old ++ asked_in h) × (text now ≡ text before ++ said h))
   unfolding outside_of after
   front_for cut =
-      let mean = mean_of job in
+      let mean = mean_of start in
       let end = some_end mean.0.end mean.1.has_ended in
-      let front = cut_of_mean job cut mean.0 mean.1 in (
-        record { history = mean.0.trace; status = status_of end.0 },
+      let front = cut_of_mean start cut mean.0 mean.1 in (
+        record { history = mean.0.trace; status = status_of end.0 mean.0.pen.has_erred },
         record { world = mean.0; mean = mean.1; end = end.0; ends = end.1; is = refl },
         (
           front.written,

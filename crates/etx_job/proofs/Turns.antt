@@ -15,9 +15,10 @@ use Rattle.etx_matter.specs.declared.end.End.TheVariants.{Spent}
 use Rattle.etx_job.specs.declared.mouth.Mouth.{Mouth}
 use Rattle.etx_job.specs.declared.mouth.Yield.{Yield}
 use Rattle.etx_job.specs.declared.mouth.Yield.TheVariants.{Quiet, Act, Load, Done}
-use Rattle.etx_job.specs.Turn.{turn_of, resumed, line_of}
-use Rattle.etx_job.specs.Chain.{Job, World, with_deeds, closing, ended, handled, step_open, step, chain}
-use Rattle.etx_job.specs.Going.{more_waiting, world_of, IsFor, Going, Over, AfterTurn, Asks, AtAsk, Cut}
+use Rattle.etx_job.specs.Turn.{turn_of, resumed, line_number_of}
+use Rattle.etx_job.specs.Chain.{Start, World, with_deeds, closing, ended, handled, step_open, step, chain}
+use Rattle.etx_job.specs.Going.{more_waiting, world_of, IsFor, Going, Over, AfterTurn, Asks, Cut}
+use Rattle.etx_job.specs.Meaning.{AtAsk}
 
 abbrev pub flushed : JournalState → JournalState
 flushed journal = record { pen = pen_after_all journal.pen journal.waiting; waiting = [] }
@@ -36,30 +37,30 @@ lt_true a b h = grind (arith, nat_tests)
 pub lt_false : (a b : ℕ) → b ≤ a → nat_lt a b ≡ false
 lt_false a b h = grind (arith, nat_tests)
 
-module _ {job : Job} {first now : Outside} {mouth : Mouth} {journal : JournalState} (g : Going job first mouth journal now) where
+module _ {start : Start} {first now : Outside} {mouth : Mouth} {journal : JournalState} (g : Going start first mouth journal now) where
   abbrev here : World
   here = world_of mouth journal g.done None
 
   abbrev there : World
   there = world_of (turn_of mouth).now journal g.done None
 
-  next_world : chain job (suc g.turns) ≡ step_open job here
+  next_world : chain start (suc g.turns) ≡ step_open start here
   unfolding chain step
-  next_world = ap (step job) g.at
+  next_world = ap (step start) g.at
 
-  within : (turn_of mouth).now.spent ≤ job.budget → chain job (suc g.turns) ≡ handled job there (turn_of mouth).did
-  within le = next_world ∙ ap (λ b. cond b (ended Spent here) (handled job there (turn_of mouth).did)) (lt_false job.budget (turn_of mouth).now.spent le)
+  within : (turn_of mouth).now.spent ≤ start.job.budget → chain start (suc g.turns) ≡ handled start there (turn_of mouth).did
+  within le = next_world ∙ ap (λ b. cond b (ended Spent here) (handled start there (turn_of mouth).did)) (lt_false start.job.budget (turn_of mouth).now.spent le)
 
-  beyond : job.budget < (turn_of mouth).now.spent → chain job (suc g.turns) ≡ ended Spent here
-  beyond lt = next_world ∙ ap (λ b. cond b (ended Spent here) (handled job there (turn_of mouth).did)) (lt_true job.budget (turn_of mouth).now.spent lt)
+  beyond : start.job.budget < (turn_of mouth).now.spent → chain start (suc g.turns) ≡ ended Spent here
+  beyond lt = next_world ∙ ap (λ b. cond b (ended Spent here) (handled start there (turn_of mouth).did)) (lt_true start.job.budget (turn_of mouth).now.spent lt)
 
-  yields : (y : Yield) → (turn_of mouth).now.spent ≤ job.budget → (turn_of mouth).did ≡ y → chain job (suc g.turns) ≡ handled job there y
-  yields y le is = within le ∙ ap (handled job there) is
+  yields : (y : Yield) → (turn_of mouth).now.spent ≤ start.job.budget → (turn_of mouth).did ≡ y → chain start (suc g.turns) ≡ handled start there y
+  yields y le is = within le ∙ ap (handled start there) is
 
-  pub turn_quiet : (turn_of mouth).now.spent ≤ job.budget → (turn_of mouth).did ≡ Quiet → Going job first (turn_of mouth).now journal now
+  pub turn_quiet : (turn_of mouth).now.spent ≤ start.job.budget → (turn_of mouth).did ≡ Quiet → Going start first (turn_of mouth).now journal now
   turn_quiet lt is = record { turns = suc g.turns; done = g.done; at = yields Quiet lt is; now_is = g.now_is }
 
-  pub turn_act : (d : Deed) → (turn_of mouth).now.spent ≤ job.budget → (turn_of mouth).did ≡ Act d → Going job first (turn_of mouth).now (more_waiting journal (d ∷ [])) now
+  pub turn_act : (d : Deed) → (turn_of mouth).now.spent ≤ start.job.budget → (turn_of mouth).did ≡ Act d → Going start first (turn_of mouth).now (more_waiting journal (d ∷ [])) now
   turn_act d lt is = record {
     turns = suc g.turns;
     done = g.done;
@@ -67,16 +68,16 @@ module _ {job : Job} {first now : Outside} {mouth : Mouth} {journal : JournalSta
     now_is = g.now_is;
   }
 
-  pub turn_done : (e : End) → (turn_of mouth).now.spent ≤ job.budget → (turn_of mouth).did ≡ Done e → Over job first (more_waiting journal (closing e (line_of (turn_of mouth).now))) e now
+  pub turn_done : (e : End) → (turn_of mouth).now.spent ≤ start.job.budget → (turn_of mouth).did ≡ Done e → Over start first (more_waiting journal (closing e (line_number_of (turn_of mouth).now))) e now
   turn_done e lt is = record {
     turns = suc g.turns;
     mouth = (turn_of mouth).now;
     done = g.done;
-    at = yields (Done e) lt is ∙ waiting_more (turn_of mouth).now journal g.done (Some e) (closing e (line_of (turn_of mouth).now));
+    at = yields (Done e) lt is ∙ waiting_more (turn_of mouth).now journal g.done (Some e) (closing e (line_number_of (turn_of mouth).now));
     now_is = g.now_is;
   }
 
-  pub turn_spent : job.budget < (turn_of mouth).now.spent → Over job first (more_waiting journal (closing Spent 0)) Spent now
+  pub turn_spent : start.job.budget < (turn_of mouth).now.spent → Over start first (more_waiting journal (closing Spent 0)) Spent now
   turn_spent le = record {
     turns = suc g.turns;
     mouth = mouth;
@@ -85,7 +86,7 @@ module _ {job : Job} {first now : Outside} {mouth : Mouth} {journal : JournalSta
     now_is = g.now_is;
   }
 
-  pub turn_asks : (name : List ℕ) → (turn_of mouth).now.spent ≤ job.budget → (turn_of mouth).did ≡ Load name → Asks job first (turn_of mouth).now journal name now
+  pub turn_asks : (name : List ℕ) → (turn_of mouth).now.spent ≤ start.job.budget → (turn_of mouth).did ≡ Load name → Asks start first (turn_of mouth).now journal name now
   turn_asks name lt is = record {
     turns = g.turns;
     done = g.done;
@@ -94,8 +95,24 @@ module _ {job : Job} {first now : Outside} {mouth : Mouth} {journal : JournalSta
     at = ap (λ (w : World). w.trace) g.at;
   }
 
+-- what waits was written
+pub going_flushed : {start : Start} {first now new : Outside} {mouth : Mouth} {journal : JournalState} → Going start first mouth journal now → new ≡ after (entries journal.pen journal.waiting) now → Going start first mouth (flushed journal) new
+going_flushed {start} {first} {now} {new} {mouth} {journal} g wrote =
+    let whole = g.done ++ entries journal.pen journal.waiting in
+    record {
+      turns = g.turns;
+      done = whole;
+      at = g.at ∙ (λ i. record {
+        mouth = mouth;
+        pen = pen_after_all journal.pen journal.waiting;
+        trace = sym (append-nil whole) i;
+        end = None;
+      });
+      now_is = wrote ∙ ap (after (entries journal.pen journal.waiting)) g.now_is ∙ sym (after-append g.done (entries journal.pen journal.waiting) first);
+    }
+
 -- the same, of a mouth and a journal that are equal
-pub going_is : {job : Job} {first now : Outside} {mouth mouth' : Mouth} {journal journal' : JournalState} → Going job first mouth journal now → mouth' ≡ mouth → journal' ≡ journal → Going job first mouth' journal' now
+pub going_is : {start : Start} {first now : Outside} {mouth mouth' : Mouth} {journal journal' : JournalState} → Going start first mouth journal now → mouth' ≡ mouth → journal' ≡ journal → Going start first mouth' journal' now
 going_is g same_mouth same_journal = record {
   turns = g.turns;
   done = g.done;
@@ -103,7 +120,7 @@ going_is g same_mouth same_journal = record {
   now_is = g.now_is;
 }
 
-pub over_is : {job : Job} {first now : Outside} {journal journal' : JournalState} {e : End} → Over job first journal e now → journal' ≡ journal → Over job first journal' e now
+pub over_is : {start : Start} {first now : Outside} {journal journal' : JournalState} {e : End} → Over start first journal e now → journal' ≡ journal → Over start first journal' e now
 over_is {e = e} o same = record {
   turns = o.turns;
   mouth = o.mouth;
@@ -112,41 +129,41 @@ over_is {e = e} o same = record {
   now_is = o.now_is;
 }
 
-pub asks_is : {job : Job} {first now : Outside} {mouth mouth' : Mouth} {journal : JournalState} {name name' : List ℕ} → Asks job first mouth journal name now → mouth' ≡ mouth → name' ≡ name → Asks job first mouth' journal name' now
-asks_is {job = job} {journal = journal} a same_mouth same_name = record {
+pub asks_is : {start : Start} {first now : Outside} {mouth mouth' : Mouth} {journal : JournalState} {name name' : List ℕ} → Asks start first mouth journal name now → mouth' ≡ mouth → name' ≡ name → Asks start first mouth' journal name' now
+asks_is {start = start} {journal = journal} a same_mouth same_name = record {
   turns = a.turns;
   done = a.done;
-  next = a.next ∙ (λ i. handled job (world_of (sym same_mouth i) journal a.done None) (Load (sym same_name i)));
+  next = a.next ∙ (λ i. handled start (world_of (sym same_mouth i) journal a.done None) (Load (sym same_name i)));
   now_is = a.now_is;
   at = a.at;
 }
 
 -- a front of what waits was written
-pub cut_going : {job : Job} {first now new : Outside} {mouth : Mouth} {journal : JournalState} → Going job first mouth journal now → Front (entries journal.pen journal.waiting) now new → Cut job first new
-cut_going {job} {first} {now} {new} g f = record {
+pub cut_going : {start : Start} {first now new : Outside} {mouth : Mouth} {journal : JournalState} → Going start first mouth journal now → Front (entries journal.pen journal.waiting) now new → Cut start first new
+cut_going {start} {first} {now} {new} g f = record {
   turns = g.turns;
   front = subst (λ (w : World). Front w.trace first new) (sym g.at) (front_behind g.done g.now_is f);
 }
 
-pub cut_over : {job : Job} {first now new : Outside} {journal : JournalState} {e : End} → Over job first journal e now → Front (entries journal.pen journal.waiting) now new → Cut job first new
-cut_over {job} {first} {now} {new} o f = record {
+pub cut_over : {start : Start} {first now new : Outside} {journal : JournalState} {e : End} → Over start first journal e now → Front (entries journal.pen journal.waiting) now new → Cut start first new
+cut_over {start} {first} {now} {new} o f = record {
   turns = o.turns;
   front = subst (λ (w : World). Front w.trace first new) (sym o.at) (front_behind o.done o.now_is f);
 }
 
 -- what stands after a turn, where it is known whether the turn ended the job
-pub over_of : (job : Job) (first : Outside) (mouth : Mouth) (journal : JournalState) (now : Outside) {o : Option End} {e : End} → o ≡ Some e → AfterTurn o job first mouth journal now → Over job first journal e now
-over_of job first mouth journal now is after = subst (λ (o : Option End). AfterTurn o job first mouth journal now) is after
+pub over_of : (start : Start) (first : Outside) (mouth : Mouth) (journal : JournalState) (now : Outside) {o : Option End} {e : End} → o ≡ Some e → AfterTurn o start first mouth journal now → Over start first journal e now
+over_of start first mouth journal now is after = subst (λ (o : Option End). AfterTurn o start first mouth journal now) is after
 
-pub going_of : (job : Job) (first : Outside) (mouth : Mouth) (journal : JournalState) (now : Outside) {o : Option End} → o ≡ None → AfterTurn o job first mouth journal now → Going job first mouth journal now
-going_of job first mouth journal now is after = subst (λ (o : Option End). AfterTurn o job first mouth journal now) is after
+pub going_of : (start : Start) (first : Outside) (mouth : Mouth) (journal : JournalState) (now : Outside) {o : Option End} → o ≡ None → AfterTurn o start first mouth journal now → Going start first mouth journal now
+going_of start first mouth journal now is after = subst (λ (o : Option End). AfterTurn o start first mouth journal now) is after
 
 -- nothing more was written
-pub cut_here : {job : Job} {first now : Outside} {mouth : Mouth} {journal : JournalState} → Going job first mouth journal now → Cut job first now
+pub cut_here : {start : Start} {first now : Outside} {mouth : Mouth} {journal : JournalState} → Going start first mouth journal now → Cut start first now
 cut_here g = cut_going g (front_none _ refl)
 
-module _ {job : Job} {first now : Outside} {mouth : Mouth} {journal : JournalState} {name : List ℕ} (a : Asks job first mouth journal name now) where
-  pub cut_flush : {new : Outside} → Front (entries journal.pen journal.waiting) now new → Cut job first new
+module _ {start : Start} {first now : Outside} {mouth : Mouth} {journal : JournalState} {name : List ℕ} (a : Asks start first mouth journal name now) where
+  pub cut_flush : {new : Outside} → Front (entries journal.pen journal.waiting) now new → Cut start first new
   cut_flush {new} f = record { turns = a.turns; front = subst (λ (h : History). Front h first new) (sym a.at) (front_behind a.done a.now_is f) }
 
   module _ {flushed_now : Outside} (wrote : flushed_now ≡ after (entries journal.pen journal.waiting) now) where
@@ -156,7 +173,7 @@ module _ {job : Job} {first now : Outside} {mouth : Mouth} {journal : JournalSta
     asked_all : {asked_now : Outside} → asked_now ≡ after (Asked name ∷ []) flushed_now → asked_now ≡ after (a.done ++ entries journal.pen journal.waiting ++ Asked name ∷ []) first
     asked_all asked = asked ∙ ap (after (Asked name ∷ [])) all ∙ sym (after-append (a.done ++ entries journal.pen journal.waiting) (Asked name ∷ []) first)
 
-    pub read_at : {asked_now : Outside} → asked_now ≡ after (Asked name ∷ []) flushed_now → AtAsk job first asked_now
+    pub read_at : {asked_now : Outside} → asked_now ≡ after (Asked name ∷ []) flushed_now → AtAsk start first asked_now
     read_at asked = record {
       turns = a.turns;
       name = name;
@@ -164,14 +181,14 @@ module _ {job : Job} {first now : Outside} {mouth : Mouth} {journal : JournalSta
       now_is = asked_all asked ∙ ap (λ (h : History). after (h ++ Asked name ∷ []) first) (sym a.at);
     }
 
-    pub cut_load : {asked_now : Outside} → Front (Asked name ∷ []) flushed_now asked_now → Cut job first asked_now
+    pub cut_load : {asked_now : Outside} → Front (Asked name ∷ []) flushed_now asked_now → Cut start first asked_now
     cut_load {asked_now} f = record { turns = suc a.turns; front = subst (λ (w : World). Front w.trace first asked_now) (sym a.next) (front_behind (a.done ++ entries journal.pen journal.waiting) all f) }
 
-    pub answered : {asked_now : Outside} (loaded : Loaded) → IsFor job first → asked_now ≡ after (Asked name ∷ []) flushed_now → loaded ≡ load_of (flushed_now.files name) → Going job first (resumed mouth loaded) (flushed journal) asked_now
+    pub answered : {asked_now : Outside} (loaded : Loaded) → IsFor start first → asked_now ≡ after (Asked name ∷ []) flushed_now → loaded ≡ load_of (flushed_now.files name) → Going start first (resumed mouth loaded) (flushed journal) asked_now
     unfolding after
     answered {asked_now} loaded files asked answer =
         let whole = a.done ++ entries journal.pen journal.waiting in
-        let there : load_of (files_after whole job.files name) ≡ loaded = ap (λ (fs : Files). load_of (files_after whole fs name)) files ∙ sym (answer ∙ ap (λ (o : Outside). load_of (o.files name)) all) in
+        let there : load_of (files_after whole start.files name) ≡ loaded = ap (λ (fs : Files). load_of (files_after whole fs name)) files ∙ sym (answer ∙ ap (λ (o : Outside). load_of (o.files name)) all) in
         record {
           turns = suc a.turns;
           done = whole ++ Asked name ∷ [];

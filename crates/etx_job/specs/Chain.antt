@@ -10,16 +10,16 @@ use Rattle.etx_matter.specs.declared.deed.Deed.TheVariants.{Fresh, Text, Error, 
 use Rattle.etx_matter.specs.declared.end.FatalError.{FatalError}
 use Rattle.etx_matter.specs.declared.end.End.{End}
 use Rattle.etx_matter.specs.declared.end.End.TheVariants.{Ended, Fatal, Spent, Unbuilt}
+use Rattle.etx_matter.specs.Jobs.{JobState}
 use Rattle.etx_job.specs.declared.mouth.Mouth.{Mouth}
 use Rattle.etx_job.specs.declared.mouth.Yield.{Yield}
 use Rattle.etx_job.specs.declared.mouth.Yield.TheVariants.{Quiet, Act, Load, Done}
-use Rattle.etx_job.specs.Turn.{turn_of, resumed, opened, line_of}
+use Rattle.etx_job.specs.Turn.{turn_of, resumed, first_mouth, line_number_of}
 use Rattle.etx_job.specs.Words.{log_name}
 
--- what is typeset: the main file's name, the most steps, and what each file holds at the beginning
-pub record Job : Type 0 where
-  pub name : List ℕ
-  pub budget : ℕ
+-- what there is at the beginning: the job, and what each file holds
+pub record Start : Type 0 where
+  pub job : JobState
   pub files : Files
 
 -- a job between two steps: its mouth, the pen, all that it has done to the outside, and its end, if it has ended
@@ -62,45 +62,45 @@ closing Spent line = closing_by (codes "*** (step budget spent)\n")
 closing Unbuilt line = closing_by (codes "*** (not built yet)\n")
 
 abbrev pub ended : End → World → World
-ended e w = record (with_deeds (closing e (line_of w.mouth)) w) { end = Some e }
+ended e w = record (with_deeds (closing e (line_number_of w.mouth)) w) { end = Some e }
 
 -- what a yield makes of a world
-abbrev pub handled : Job → World → Yield → World
-handled job w Quiet = w
-handled job w (Act d) = with_deeds (d ∷ []) w
-handled job w (Load name) = record w { mouth = resumed w.mouth (load_of (files_after w.trace job.files name)); trace = w.trace ++ Asked name ∷ [] }
-handled job w (Done e) = ended e w
+abbrev pub handled : Start → World → Yield → World
+handled start w Quiet = w
+handled start w (Act d) = with_deeds (d ∷ []) w
+handled start w (Load name) = record w { mouth = resumed w.mouth (load_of (files_after w.trace start.files name)); trace = w.trace ++ Asked name ∷ [] }
+handled start w (Done e) = ended e w
 
 -- the mouth has made a turn
 abbrev pub turned_on : World → World
 turned_on w = record w { mouth = (turn_of w.mouth).now }
 
 -- a turn that would pass the budget is not made
-abbrev pub step_open : Job → World → World
-step_open job w = if nat_lt job.budget (turn_of w.mouth).now.spent then ended Spent w else handled job (turned_on w) (turn_of w.mouth).did
+abbrev pub step_open : Start → World → World
+step_open start w = if nat_lt start.job.budget (turn_of w.mouth).now.spent then ended Spent w else handled start (turned_on w) (turn_of w.mouth).did
 
-abbrev pub step_from : Job → World → Option End → World
-step_from job w None = step_open job w
-step_from job w (Some e) = w
+abbrev pub step_from : Start → World → Option End → World
+step_from start w None = step_open start w
+step_from start w (Some e) = w
 
-unfoldable pub step : Job → World → World
-step job w = step_from job w w.end
+unfoldable pub step : Start → World → World
+step start w = step_from start w w.end
 
 -- the log is created, and then the main file is asked for
-unfoldable pub opening : Job → World
-opening job = with_deeds (Create (log_name job.name) ∷ []) (record {
-  mouth = opened job.name;
+unfoldable pub opening : Start → World
+opening start = with_deeds (Create (log_name start.job.name) ∷ []) (record {
+  mouth = first_mouth start.job.name;
   pen = first_pen;
   trace = [];
   end = None;
 })
 
-unfoldable pub chain : Job → ℕ → World
-chain job zero = opening job
-chain job (suc n) = step job (chain job n)
+unfoldable pub chain : Start → ℕ → World
+chain start zero = opening start
+chain start (suc n) = step start (chain start n)
 
--- the last world of the chain
-pub record IsMean (job : Job) (w : World) : Type 0 where
+-- the last world of the chain, at which the job has ended
+pub record IsMean (start : Start) (w : World) : Type 0 where
   pub turns : ℕ
-  pub reached : chain job turns ≡ w
+  pub reached : chain start turns ≡ w
   pub has_ended : IsSome w.end

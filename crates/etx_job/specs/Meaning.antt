@@ -1,22 +1,30 @@
 -- What the words of the command line mean: a history and a status.
-use Rattle.std.specs.Prelude.{◌≡◌, ℕ, List, Option, Some, None, MatchOption, codes}
-use Rattle.etx_outside.specs.Entries.{Files, History, shown}
+use Rattle.std.specs.Prelude.{◌≡◌, ℕ, suc, Bool, true, false, List, [], ◌∷◌, ◌++◌, Option, Some, None, MatchOption, option_map, codes}
+use Rattle.etx_outside.specs.Entries.{Files, Asked, History, shown}
+use Rattle.etx_outside.specs.Outside.{Outside, after, Faults}
+use Rattle.etx_outside.specs.Faults.{Rose}
+use Rattle.etx_matter.specs.Jobs.{JobState}
 use Rattle.etx_matter.specs.declared.end.End.{End}
 use Rattle.etx_matter.specs.declared.end.End.TheVariants as end
 use Rattle.etx_matter.specs.declared.end.Status.{Status}
 use Rattle.etx_matter.specs.declared.end.Status.TheVariants.{Clean, Errors, Stopped, Spent, Usage, ReadFault, WriteFault, OutOfMemory}
-use Rattle.etx_job.specs.Chain.{Job, World, IsMean}
+use Rattle.etx_job.specs.Chain.{Start, World, chain, IsMean}
 use Rattle.etx_job.specs.Words.{file_asked}
 
 pub record Meaning : Type 0 where
   pub history : History
   pub status : Status
 
-abbrev pub status_of : End → Status
-status_of end.Ended = Clean
-status_of (end.Fatal why) = Stopped
-status_of end.Spent = Spent
-status_of end.Unbuilt = Stopped
+abbrev pub ended_status : Bool → Status
+ended_status true = Errors
+ended_status false = Clean
+
+-- the answer for an end, with or without an error before it
+abbrev pub status_of : End → Bool → Status
+status_of end.Ended has_erred = ended_status has_erred
+status_of (end.Fatal why) has_erred = Stopped
+status_of end.Spent has_erred = Spent
+status_of end.Unbuilt has_erred = Stopped
 
 -- no fault and not want of memory
 abbrev pub IsEnding : Status → Type 0
@@ -40,6 +48,12 @@ IsRefusal ReadFault = ⊥
 IsRefusal WriteFault = Unit {0}
 IsRefusal OutOfMemory = Unit {0}
 
+-- none of the three counts of faults rose
+pub record NoneRose (old new : Faults) : Type 0 where
+  pub reads : Rose old.reads new.reads → ⊥
+  pub writes : Rose old.writes new.writes → ⊥
+  pub says : Rose old.says new.says → ⊥
+
 abbrev pub usage_line : List ℕ
 usage_line = codes "usage: etx run|alone [--workers N] [--steps N] FILE, etx gen N\n"
 
@@ -47,21 +61,35 @@ usage_line = codes "usage: etx run|alone [--workers N] [--steps N] FILE, etx gen
 abbrev pub default_budget : ℕ
 default_budget = 100000000
 
-abbrev pub job_over : List ℕ → Files → Job
-job_over name files = record { name = name; budget = default_budget; files = files }
+abbrev pub job_of : List ℕ → JobState
+job_of name = record { name = name; budget = default_budget }
+
+abbrev pub start_of : JobState → Files → Start
+start_of job files = record { job = job; files = files }
+
+-- the job that the words ask for, if they are of a known form
+abbrev pub job_asked : List (List ℕ) → Option JobState
+job_asked words = option_map job_of (file_asked words)
 
 -- words of no known form: the usage line is shown, and nothing else happens
 abbrev pub usage : Meaning
 usage = record { history = shown usage_line; status = Usage }
 
 -- a job: what its last world has done, and how it ended
-pub record IsMeaningOfJob (job : Job) (m : Meaning) : Type 0 where
+pub record IsMeaningOfJob (start : Start) (m : Meaning) : Type 0 where
   pub world : World
-  pub mean : IsMean job world
+  pub mean : IsMean start world
   pub end : End
   pub ends : world.end ≡ Some end
-  pub is : m ≡ record { history = world.trace; status = status_of end }
+  pub is : m ≡ record { history = world.trace; status = status_of end world.pen.has_erred }
 
 -- the meaning of these words over these files
 abbrev pub IsMeaning : List (List ℕ) → Files → Meaning → Type 0
-IsMeaning words files m = MatchOption (file_asked words) (m ≡ usage) (λ name. IsMeaningOfJob (job_over name files) m)
+IsMeaning words files m = MatchOption (job_asked words) (m ≡ usage) (λ job. IsMeaningOfJob (start_of job files) m)
+
+-- all that a world of the chain has done was done, and then the name was asked for that its next step asks for
+pub record AtAsk (start : Start) (first now : Outside) : Type 0 where
+  pub turns : ℕ
+  pub name : List ℕ
+  pub asks : (chain start (suc turns)).trace ≡ (chain start turns).trace ++ Asked name ∷ []
+  pub now_is : now ≡ after ((chain start turns).trace ++ Asked name ∷ []) first

@@ -38,19 +38,19 @@ abbrev pub turned : Mouth → Yield → Turned
 turned v did = record { now = v; did = did }
 
 -- the mouth of INITEX, which is to read the main file
-unfoldable pub opened : List ℕ → Mouth
-opened name = record { source = Unasked name; spent = 0 }
+unfoldable pub first_mouth : List ℕ → Mouth
+first_mouth name = record { source = Unasked name; spent = 0 }
 
 -- the number of the line that was read last, or 0
-abbrev pub line_in : Source → ℕ
-line_in (Unasked name) = 0
-line_in (Awaited name) = 0
-line_in (Absent name) = 0
-line_in Refused = 0
-line_in (Reading input) = input.number
+abbrev pub line_number_in : Source → ℕ
+line_number_in (Unasked name) = 0
+line_number_in (Awaited name) = 0
+line_number_in (Absent name) = 0
+line_number_in Refused = 0
+line_number_in (Reading input) = input.number
 
-unfoldable pub line_of : Mouth → ℕ
-line_of v = line_in v.source
+unfoldable pub line_number_of : Mouth → ℕ
+line_number_of v = line_number_in v.source
 
 -- a space does nothing in vertical mode, and every other character is still to come
 abbrev pub character_row : ℕ → Yield
@@ -64,6 +64,7 @@ name_row name =
     else if bytes_eq name (codes "end") then Done Ended
     else Done Unbuilt
 
+-- a line's end is never got: the next line is read
 unfoldable pub command_row : Lexed → Yield
 command_row (Char code cat) = character_row cat
 command_row (Name name) = name_row name
@@ -78,7 +79,7 @@ command_turn (Some got) input v = turned (record { source = Reading input; spent
 abbrev pub cant_find : List ℕ → List ℕ
 cant_find name = codes "I can't find file `" ++ name ++ codes "'"
 
--- a line for each source
+-- A line for each source. A mouth that awaits an answer makes no turn before it has it.
 abbrev pub source_turn : Source → Mouth → Turned
 source_turn (Unasked name) v = turned (record v { source = Awaited name }) (Load name)
 source_turn (Awaited name) v = turned (record v { source = Refused }) (Done (Fatal FileError))
@@ -89,7 +90,7 @@ source_turn (Reading input) v = command_turn (next_of initial_category input).go
 unfoldable pub turn_of : Mouth → Turned
 turn_of v = source_turn v.source v
 
--- what a main file is read from, by the answer of its load
+-- What a main file is read from, by the answer of its load. Only a mouth that awaits one is given one.
 abbrev pub source_of : Source → Loaded → Source
 source_of (Unasked name) loaded = Refused
 source_of (Awaited name) loaded.Absent = Absent name

@@ -1,5 +1,5 @@
-//! The driver: it makes the turns of a job's mouth, lets what they yield wait in a journal, and writes what waits before
-//! anything is asked for and at the end.
+//! The driver: it makes the turns of a job's mouth, puts the deeds that they yield into a journal, and flushes it after
+//! each deed, before anything is asked for, and at the end.
 ghost use Rattle.std.specs.Prelude.{◌≡◌, ◌<◌, ◌≤◌, ◌+◌, ◌^◌, ◌++◌, [], ◌∷◌, List, ℕ, Option, Some, None, IfOk, OnOk, OnErr, IsErrOf};
 ghost use Rattle.etx_outside.specs.Faults.{Rose};
 ghost use Rattle.etx_outside.specs.Entries.{Asked};
@@ -8,14 +8,15 @@ ghost use Rattle.etx_outside.specs.Outside.{Outside, outside_of, after, Front, F
 ghost use Rattle.etx_settle.specs.Deeds.{JournalState, AllOpen, first_pen};
 ghost use Rattle.etx_job.specs.Measure.{Falls, IsNoMore};
 ghost use Rattle.etx_job.specs.Words.{log_name};
-ghost use Rattle.etx_job.specs.Chain.{Job, printed, last_line, closing_by, reason_of, closing_fatally, closing};
-ghost use Rattle.etx_job.specs.Going.{more_waiting, IsFor, Going, AfterTurn, Asks, AtAsk, Cut, Settled};
+ghost use Rattle.etx_job.specs.Chain.{Start, printed, last_line, closing_by, reason_of, closing_fatally, closing};
+ghost use Rattle.etx_job.specs.Meaning.{AtAsk};
+ghost use Rattle.etx_job.specs.Going.{more_waiting, IsFor, Going, AfterTurn, Asks, Cut, Settled};
 
 use crate::fault::Fault;
 use crate::mouth::{Mouth, Yield};
 use crate::words::name_log;
 use etx_lists::Bytes;
-use etx_matter::{Audience, Deed, End, FatalError};
+use etx_matter::{Audience, Deed, End, FatalError, Job};
 use etx_outside::{Loaded, Terminal, Tree, TreeFault};
 use etx_settle::Journal;
 use std::alloc::{AllocError, Global};
@@ -126,15 +127,15 @@ fn ask<F: Tree, T: Terminal>(
     terminal: &mut T,
 ) -> Result<(), Fault>
     requires { AllOpen (F.is_open tree.old) journal.old.pen.created }
-    ensures going { OnOk result (F.tells → T.tells → (job : Job) (first : Outside) → IsFor job first →
-        Asks job first mouth.old journal.old name.now (outside_of F.files F.asked T.text tree.old terminal.old)
-        → Going job first mouth.new journal.new (outside_of F.files F.asked T.text tree.new terminal.new)) }
-    ensures cut { F.tells → T.tells → (job : Job) (first : Outside) → IsFor job first →
-        Asks job first mouth.old journal.old name.now (outside_of F.files F.asked T.text tree.old terminal.old)
-        → Cut job first (outside_of F.files F.asked T.text tree.new terminal.new) }
-    ensures read_at { IsErrOf result Fault.ReadFault → F.tells → T.tells → (job : Job) (first : Outside) →
-        Asks job first mouth.old journal.old name.now (outside_of F.files F.asked T.text tree.old terminal.old)
-        → AtAsk job first (outside_of F.files F.asked T.text tree.new terminal.new) }
+    ensures going { OnOk result (F.tells → T.tells → (start : Start) (first : Outside) → IsFor start first →
+        Asks start first mouth.old journal.old name.now (outside_of F.files F.asked T.text tree.old terminal.old)
+        → Going start first mouth.new journal.new (outside_of F.files F.asked T.text tree.new terminal.new)) }
+    ensures cut { F.tells → T.tells → (start : Start) (first : Outside) → IsFor start first →
+        Asks start first mouth.old journal.old name.now (outside_of F.files F.asked T.text tree.old terminal.old)
+        → Cut start first (outside_of F.files F.asked T.text tree.new terminal.new) }
+    ensures read_at { IsErrOf result Fault.ReadFault → F.tells → T.tells → (start : Start) (first : Outside) →
+        Asks start first mouth.old journal.old name.now (outside_of F.files F.asked T.text tree.old terminal.old)
+        → AtAsk start first (outside_of F.files F.asked T.text tree.new terminal.new) }
     ensures opened { OnOk result (AllOpen (F.is_open tree.new) journal.new.pen.created) }
     ensures no_more { OnOk result (IsNoMore mouth.old mouth.new) }
     ensures later { NoneFell (faults_of F.faults T.faults tree.old terminal.old) (faults_of F.faults T.faults tree.new terminal.new) }
@@ -162,15 +163,15 @@ fn turn<F: Tree, T: Terminal>(
 ) -> Result<Option<End>, Fault>
     requires open { AllOpen (F.is_open tree.old) journal.old.pen.created }
     requires room { mouth.old.spent + 1 < 2 ^ 64 }
-    ensures going { IfOk result (λ end. F.tells → T.tells → (job : Job) (first : Outside) → IsFor job first → job.budget ≡ budget →
-        Going job first mouth.old journal.old (outside_of F.files F.asked T.text tree.old terminal.old)
-        → AfterTurn end job first mouth.new journal.new (outside_of F.files F.asked T.text tree.new terminal.new)) }
-    ensures cut { F.tells → T.tells → (job : Job) (first : Outside) → IsFor job first → job.budget ≡ budget →
-        Going job first mouth.old journal.old (outside_of F.files F.asked T.text tree.old terminal.old)
-        → Cut job first (outside_of F.files F.asked T.text tree.new terminal.new) }
-    ensures read_at { IsErrOf result Fault.ReadFault → F.tells → T.tells → (job : Job) (first : Outside) → job.budget ≡ budget →
-        Going job first mouth.old journal.old (outside_of F.files F.asked T.text tree.old terminal.old)
-        → AtAsk job first (outside_of F.files F.asked T.text tree.new terminal.new) }
+    ensures going { IfOk result (λ end. F.tells → T.tells → (start : Start) (first : Outside) → IsFor start first → start.job.budget ≡ budget →
+        Going start first mouth.old journal.old (outside_of F.files F.asked T.text tree.old terminal.old)
+        → AfterTurn end start first mouth.new journal.new (outside_of F.files F.asked T.text tree.new terminal.new)) }
+    ensures cut { F.tells → T.tells → (start : Start) (first : Outside) → IsFor start first → start.job.budget ≡ budget →
+        Going start first mouth.old journal.old (outside_of F.files F.asked T.text tree.old terminal.old)
+        → Cut start first (outside_of F.files F.asked T.text tree.new terminal.new) }
+    ensures read_at { IsErrOf result Fault.ReadFault → F.tells → T.tells → (start : Start) (first : Outside) → start.job.budget ≡ budget →
+        Going start first mouth.old journal.old (outside_of F.files F.asked T.text tree.old terminal.old)
+        → AtAsk start first (outside_of F.files F.asked T.text tree.new terminal.new) }
     ensures opened { OnOk result (AllOpen (F.is_open tree.new) journal.new.pen.created) }
     ensures falls { IfOk result (λ end. end ≡ None → (mouth.new.spent ≤ budget) × Falls mouth.old mouth.new) }
     ensures later { NoneFell (faults_of F.faults T.faults tree.old terminal.old) (faults_of F.faults T.faults tree.new terminal.new) }
@@ -186,6 +187,7 @@ fn turn<F: Tree, T: Terminal>(
         Yield::Quiet => Ok(None),
         Yield::Act(deed) => {
             journal.push(deed)?;
+            journal.flush(tree, terminal)?;
             Ok(None)
         }
         Yield::Load(name) => {
@@ -199,34 +201,46 @@ fn turn<F: Tree, T: Terminal>(
     }
 }
 
+/// How a job came to its end.
+#[derive(Clone, Copy)]
+pub struct Ending {
+    pub end: End,
+    /// Whether an error was reported.
+    pub has_erred: bool,
+}
+
 /// Runs a job to its end: from the creation of its log to the last byte of its transcript.
 pub fn run<F: Tree, T: Terminal>(
     alloc: Global,
-    name: Bytes,
-    budget: u64,
+    job: Job,
     tree: &mut F,
     terminal: &mut T,
-) -> Result<End, Fault>
-    requires { budget ≤ 1099511627776 }
-    ensures whole { IfOk result (λ end. F.tells → T.tells → (job : Job) → IsFor job (outside_of F.files F.asked T.text tree.old terminal.old) → job.name ≡ name → job.budget ≡ budget →
-        Settled job end (outside_of F.files F.asked T.text tree.old terminal.old) (outside_of F.files F.asked T.text tree.new terminal.new)) }
-    ensures cut { F.tells → T.tells → (job : Job) → IsFor job (outside_of F.files F.asked T.text tree.old terminal.old) → job.name ≡ name → job.budget ≡ budget →
-        Cut job (outside_of F.files F.asked T.text tree.old terminal.old) (outside_of F.files F.asked T.text tree.new terminal.new) }
-    ensures read_at { IsErrOf result Fault.ReadFault → F.tells → T.tells → (job : Job) → IsFor job (outside_of F.files F.asked T.text tree.old terminal.old) → job.name ≡ name → job.budget ≡ budget →
-        AtAsk job (outside_of F.files F.asked T.text tree.old terminal.old) (outside_of F.files F.asked T.text tree.new terminal.new) }
+) -> Result<Ending, Fault>
+    ensures whole { IfOk result (λ ending. F.tells → T.tells → (start : Start) → IsFor start (outside_of F.files F.asked T.text tree.old terminal.old) → start.job ≡ job →
+        Settled start ending.end ending.has_erred (outside_of F.files F.asked T.text tree.old terminal.old) (outside_of F.files F.asked T.text tree.new terminal.new)) }
+    ensures cut { F.tells → T.tells → (start : Start) → IsFor start (outside_of F.files F.asked T.text tree.old terminal.old) → start.job ≡ job →
+        Cut start (outside_of F.files F.asked T.text tree.old terminal.old) (outside_of F.files F.asked T.text tree.new terminal.new) }
+    ensures read_at { IsErrOf result Fault.ReadFault → F.tells → T.tells → (start : Start) → IsFor start (outside_of F.files F.asked T.text tree.old terminal.old) → start.job ≡ job →
+        AtAsk start (outside_of F.files F.asked T.text tree.old terminal.old) (outside_of F.files F.asked T.text tree.new terminal.new) }
     ensures later { NoneFell (faults_of F.faults T.faults tree.old terminal.old) (faults_of F.faults T.faults tree.new terminal.new) }
     ensures read_cause { IsErrOf result Fault.ReadFault → Rose (faults_of F.faults T.faults tree.old terminal.old).reads (faults_of F.faults T.faults tree.new terminal.new).reads }
     ensures write_cause { IsErrOf result Fault.WriteFault → WriteRose (faults_of F.faults T.faults tree.old terminal.old) (faults_of F.faults T.faults tree.new terminal.new) }
 {
+    let budget = job.budget();
     let mut journal = Journal::new(alloc);
-    journal.push(Deed::Create(name_log(alloc, name.as_slice())?))?;
-    let mut mouth = Mouth::new(name);
+    journal.push(Deed::Create(name_log(alloc, job.name())?))?;
+    let mut mouth = Mouth::new(job.into_name());
+    // A turn may take no step, but then it makes the mouth's weight less: the inner loop ends by that, and the outer one
+    // since the budget is spent.
     'steps: loop {
         let before = mouth.spent;
         'free: loop {
             if let Some(end) = turn(alloc, budget, &mut mouth, &mut journal, tree, terminal)? {
                 journal.flush(tree, terminal)?;
-                return Ok(end);
+                return Ok(Ending {
+                    end,
+                    has_erred: journal.has_erred(),
+                });
             }
             if mouth.spent > before {
                 break;

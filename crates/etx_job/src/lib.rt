@@ -14,7 +14,5 @@ mod tests;
 mod typeset;
 mod words;
 
-pub use input::Input;
 pub use law::each_job_has_one_meaning;
-pub use mouth::{Mouth, Source, Yield};
 pub use typeset::typeset_alone;

@@ -1,6 +1,6 @@
 //! The mouth of a job: it reads the main file, and one turn handles one token.
 ghost use Rattle.std.specs.Prelude.{◌≡◌, ◌≤◌, ◌<◌, ◌+◌, ◌^◌, IfOk, OnOk};
-ghost use Rattle.etx_job.specs.Turn.{initial_category, turn_of, opened, line_in, line_of, character_row, name_row, command_row, command_turn, cant_find, source_of, resumed};
+ghost use Rattle.etx_job.specs.Turn.{initial_category, turn_of, first_mouth, line_number_in, line_number_of, character_row, name_row, command_row, command_turn, cant_find, source_of, resumed};
 ghost use Rattle.etx_job.specs.Input.{next_of};
 ghost use Rattle.etx_job.specs.Measure.{Goes, IsNoMore};
 
@@ -116,7 +116,7 @@ fn find_no(alloc: Global, name: &[u8]) -> Result<Bytes, AllocError>
 impl Source {
     /// The number of the line that was read last, or 0.
     fn line(&self) -> u32
-        ensures { result ≡ line_in self.now }
+        ensures { result ≡ line_number_in self.now }
     {
         match self {
             Source::Reading(input) => input.number(),
@@ -141,9 +141,9 @@ impl Source {
 
 impl Mouth {
     /// The mouth of INITEX, which is to read the main file of this name.
-    #[tactic(auto, unfolding(crate::specs::Turn::opened))]
+    #[tactic(auto, unfolding(crate::specs::Turn::first_mouth))]
     pub fn new(name: Bytes) -> Mouth
-        ensures { result ≡ opened name }
+        ensures { result ≡ first_mouth name }
     {
         Mouth {
             source: Source::Unasked(name),
@@ -152,9 +152,9 @@ impl Mouth {
     }
 
     /// The number of the line that was read last, or 0.
-    #[tactic(auto, unfolding(crate::specs::Turn::line_of))]
+    #[tactic(auto, unfolding(crate::specs::Turn::line_number_of))]
     pub fn line(&self) -> u32
-        ensures { result ≡ line_of self.now }
+        ensures { result ≡ line_number_of self.now }
     {
         self.source.line()
     }

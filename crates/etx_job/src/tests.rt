@@ -152,6 +152,19 @@ fn a_job_has_the_name_of_its_file(rt: HostRuntime) -> Result<(), Fail> {
 }
 
 #[test]
+fn a_log_is_made_before_its_source_is_read(rt: HostRuntime) -> Result<(), Fail> {
+    let alloc = rt.alloc();
+    let words = words_of(alloc, &["alone", "job.log"])?;
+    let files = vec![in alloc; (b"job.log".to_vec(alloc)?, b"\\end".to_vec(alloc)?)]?;
+    let mut tree = MemTree::new(alloc, files, Vec::new(alloc))?;
+    let mut terminal = MemTerminal::new(alloc, Vec::new(alloc))?;
+    let status = typeset_alone(alloc, &words, &mut tree, &mut terminal);
+    assert!(rt; status == Status::Stopped);
+    assert!(rt; terminal.text() == NO_END_AT_0);
+    Ok(())
+}
+
+#[test]
 fn other_words_get_the_usage(rt: HostRuntime) -> Result<(), Fail> {
     let alloc = rt.alloc();
     let lists: [&[&str]; 9] = [

@@ -1,8 +1,10 @@
 //! The words of the command line.
-ghost use Rattle.std.specs.Prelude.{◌≡◌, ℕ, List, Option, Some, None, IfOk, OnOk, map, string_bytes};
-ghost use Rattle.etx_job.specs.Words.{begins_with_dash, is_file_word, file_asked, log_name};
+ghost use Rattle.std.specs.Prelude.{◌≡◌, IfOk, map, string_bytes};
+ghost use Rattle.etx_job.specs.Words.{is_file_word, log_name};
+ghost use Rattle.etx_job.specs.Meaning.{job_asked};
 
 use etx_lists::Bytes;
+use etx_matter::Job;
 use std::alloc::{AllocError, Global};
 
 /// The name of a job's log.
@@ -20,15 +22,18 @@ fn is_file_word(word: &[u8]) -> bool
     etx_outside::names::is_good(word) && !matches!(word, [b'-', ..])
 }
 
-/// The main file that the words ask for, with its extension. `None` exactly where the words are of no known form.
-pub fn find_file(alloc: Global, words: &[String]) -> Result<Option<Bytes>, AllocError>
-    ensures { IfOk result (λ file. file ≡ file_asked (map string_bytes words.now)) }
+/// The steps that a job may take where no word says otherwise.
+const DEFAULT_BUDGET: u64 = 100_000_000;
+
+/// The job that the words ask for. `None` exactly where they are of no known form.
+pub fn find_job(alloc: Global, words: &[String]) -> Result<Option<Job>, AllocError>
+    ensures { IfOk result (λ job. job ≡ job_asked (map string_bytes words.now)) }
 {
     match words {
         [command, file]
             if command.as_bytes() == b"alone".as_slice() && is_file_word(file.as_bytes()) => {
             let name = etx_outside::names::with_extension(alloc, file.as_bytes(), b".tex")?;
-            Ok(Some(name))
+            Ok(Some(Job::new(name, DEFAULT_BUDGET)))
         }
         _ => Ok(None),
     }

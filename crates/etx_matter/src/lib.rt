@@ -5,6 +5,8 @@
 mod deed;
 mod end;
 mod job;
+#[cfg(test)]
+mod tests;
 mod token;
 
 pub use deed::{Audience, Deed};

@@ -3,7 +3,8 @@ ghost use Rattle.std.specs.Prelude.{◌≡◌, ◌++◌, [], ◌∷◌, List, �
 ghost use Rattle.etx_outside.specs.Outside.{Outside, outside_of, after, Front, faults_of, NoneFell, WriteRose};
 ghost use Rattle.etx_settle.specs.Deeds.{JournalState, first_pen, entries, pen_after_all, AllOpen};
 
-use crate::{FlushFault, Pen};
+use crate::FlushFault;
+use crate::pen::Pen;
 use etx_matter::Deed;
 use etx_outside::{Terminal, Tree};
 use std::alloc::{AllocError, Global};

@@ -7,8 +7,9 @@
 mod fault;
 mod journal;
 mod pen;
+#[cfg(test)]
+mod tests;
 mod text;
 
 pub use fault::FlushFault;
 pub use journal::Journal;
-pub use pen::Pen;

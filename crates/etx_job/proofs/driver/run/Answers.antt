@@ -4,51 +4,54 @@ use Rattle.etx_outside.proofs.Outsides.{front_all}
 use Rattle.etx_settle.specs.Deeds.{JournalState, first_pen, is_among}
 use Rattle.etx_matter.specs.declared.deed.Deed.{Deed}
 use Rattle.etx_matter.specs.declared.deed.Deed.TheVariants.{Create}
+use Rattle.etx_matter.specs.Jobs.{JobState}
 use Rattle.etx_job.specs.declared.mouth.Mouth.{Mouth}
-use Rattle.etx_job.specs.Turn.{opened}
+use Rattle.etx_job.specs.Turn.{first_mouth}
 use Rattle.etx_job.specs.Words.{log_name}
 use Rattle.etx_job.proofs.Turns.{cut_going, cut_over, over_of, going_of}
 use Rattle.etx_job.proofs.Ends.{cut_nothing, going_starts, settled}
 use Rattle.etx_job.proofs.driver.run.Goals as goal
 
 pub returns-in_err-name_log-clause-cut : goal.returns-in_err-name_log-clause-cut
-returns-in_err-name_log-clause-cut g c = λ a b job files name budget. cut_nothing _ _
+returns-in_err-name_log-clause-cut g c = λ a b start files is. cut_nothing _ _
 
 pub returns-in_err-push-clause-cut : goal.returns-in_err-push-clause-cut
-returns-in_err-push-clause-cut g c = λ a b job files name budget. cut_nothing _ _
+returns-in_err-push-clause-cut g c = λ a b start files is. cut_nothing _ _
 
 pub steps-init : goal.steps-init
-unfolding opened
+unfolding first_mouth
 steps-init g c =
-    let journal : c.push.new.self ≡ record { pen = first_pen; waiting = Create (log_name c.args.name) ∷ [] } =
+    let journal : c.push.new.self ≡ record { pen = first_pen; waiting = Create (log_name c.args.job.name) ∷ [] } =
     c.in_ok-push.ensures
     ∙ ap (λ (j : JournalState). record j { waiting = j.waiting ++ Create c.in_ok-name_log.field-0 ∷ [] }) c.new-journal.ensures
-    ∙ ap (λ (l : List ℕ). record { pen = first_pen; waiting = Create l ∷ [] }) (c.in_ok-name_log.ensures ∙ ap log_name c.as_slice.ensures.same) in
+    ∙ ap (λ (l : List ℕ). record { pen = first_pen; waiting = Create l ∷ [] }) (c.in_ok-name_log.ensures ∙ ap log_name c.name.ensures) in
     record {
       within = let none : c.new-mouth.result.spent ≡ 0 = ap (λ (m : Mouth). m.spent) c.new-mouth.ensures in omega arith;
+      asked = c.budget-budget.ensures.value;
+      bounded = c.budget-budget.ensures.bounded;
       opened = λ q is. absurd (let no : false ≡ true = subst (λ (j : JournalState). is_among q j.pen.created ≡ true) journal is in cc);
       later = search rules;
-      going = λ a b job files name budget. going_starts
+      going = λ a b start files is. going_starts
           _
           _
-          (c.new-mouth.ensures ∙ ap opened (sym name))
-          (journal ∙ ap (λ (l : List ℕ). record { pen = first_pen; waiting = Create (log_name l) ∷ [] }) (sym name));
+          (c.new-mouth.ensures ∙ ap first_mouth c.into_name.ensures ∙ ap (λ (j : JobState). first_mouth j.name) (sym is))
+          (journal ∙ ap (λ (j : JobState). record { pen = first_pen; waiting = Create (log_name j.name) ∷ [] }) (sym is));
     }
 
 pub returns-in_err-flush-clause-cut : goal.returns-in_err-flush-clause-cut
-returns-in_err-flush-clause-cut g c = λ a b job files name budget.
-    let after = c.in_ok-end.ensures.going a b job _ files budget (c.free.invariant.going a b job files name budget) in
-    cut_over (over_of job _ c.turn.new.mouth _ _ c.in-Some.is after) (c.in_err-flush.ensures.front a b)
+returns-in_err-flush-clause-cut g c = λ a b start files is.
+    let after = c.in_ok-end.ensures.going a b start _ files (ap (λ (j : JobState). j.budget) is ∙ sym c.free.invariant.asked) (c.free.invariant.going a b start files is) in
+    cut_over (over_of start _ c.turn.new.mouth _ _ c.in-Some.is after) (c.in_err-flush.ensures.front a b)
 
 pub returns-in-Some-clause-whole : goal.returns-in-Some-clause-whole
-returns-in-Some-clause-whole g c = λ a b job files name budget.
-    let after = c.in_ok-end.ensures.going a b job _ files budget (c.free.invariant.going a b job files name budget) in
-    settled (over_of job _ c.turn.new.mouth _ _ c.in-Some.is after) (c.in_ok-flush.ensures.ok a b)
+returns-in-Some-clause-whole g c = λ a b start files is.
+    let after = c.in_ok-end.ensures.going a b start _ files (ap (λ (j : JobState). j.budget) is ∙ sym c.free.invariant.asked) (c.free.invariant.going a b start files is) in
+    settled (over_of start _ c.turn.new.mouth _ _ c.in-Some.is after) (c.in_ok-flush.ensures.ok a b) (c.has_erred.ensures ∙ ap (λ (j : JournalState). j.pen.has_erred) c.in_ok-flush.ensures.journal)
 
 pub returns-in-Some-clause-cut : goal.returns-in-Some-clause-cut
-returns-in-Some-clause-cut g c = λ a b job files name budget.
-    let after = c.in_ok-end.ensures.going a b job _ files budget (c.free.invariant.going a b job files name budget) in
-    cut_over (over_of job _ c.turn.new.mouth _ _ c.in-Some.is after) (front_all (c.in_ok-flush.ensures.ok a b))
+returns-in-Some-clause-cut g c = λ a b start files is.
+    let after = c.in_ok-end.ensures.going a b start _ files (ap (λ (j : JobState). j.budget) is ∙ sym c.free.invariant.asked) (c.free.invariant.going a b start files is) in
+    cut_over (over_of start _ c.turn.new.mouth _ _ c.in-Some.is after) (front_all (c.in_ok-flush.ensures.ok a b))
 
 pub free-preserved : goal.free-preserved
 free-preserved g c =
@@ -56,9 +59,11 @@ free-preserved g c =
     record {
       same = omega (arith, falls.1, c.free.invariant.same, c.if-mouth-before.false);
       within = falls.0;
+      asked = c.free.invariant.asked;
+      bounded = c.free.invariant.bounded;
       opened = c.in_ok-end.ensures.opened;
       later = search rules;
-      going = λ a b job files name budget. going_of job _ c.turn.new.mouth _ _ c.in_default.is (c.in_ok-end.ensures.going a b job _ files budget (c.free.invariant.going a b job files name budget));
+      going = λ a b start files is. going_of start _ c.turn.new.mouth _ _ c.in_default.is (c.in_ok-end.ensures.going a b start _ files (ap (λ (j : JobState). j.budget) is ∙ sym c.free.invariant.asked) (c.free.invariant.going a b start files is));
     }
 
 pub steps-preserved : goal.steps-preserved
@@ -66,7 +71,9 @@ steps-preserved g c =
     let falls = c.in_ok-end.ensures.falls c.in_default.is in
     record {
       within = falls.0;
+      asked = c.free.invariant.asked;
+      bounded = c.free.invariant.bounded;
       opened = c.in_ok-end.ensures.opened;
       later = search rules;
-      going = λ a b job files name budget. going_of job _ c.turn.new.mouth _ _ c.in_default.is (c.in_ok-end.ensures.going a b job _ files budget (c.free.invariant.going a b job files name budget));
+      going = λ a b start files is. going_of start _ c.turn.new.mouth _ _ c.in_default.is (c.in_ok-end.ensures.going a b start _ files (ap (λ (j : JobState). j.budget) is ∙ sym c.free.invariant.asked) (c.free.invariant.going a b start files is));
     }

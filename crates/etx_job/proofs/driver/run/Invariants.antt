@@ -2,7 +2,7 @@ use Rattle.std.proofs.Common.{◌≡◌, ◌≤◌, ◌-◌, List, ℕ}
 use Rattle.etx_outside.specs.Outside.{outside_of, faults_of, NoneFell}
 use Rattle.etx_settle.specs.Deeds.{AllOpen}
 use Rattle.etx_job.specs.Measure.{weight}
-use Rattle.etx_job.specs.Chain.{Job}
+use Rattle.etx_job.specs.Chain.{Start}
 use Rattle.etx_job.specs.Going.{IsFor, Going}
 use Rattle.etx_job.proofs.driver.run.Given as goal
 
@@ -12,14 +12,16 @@ invariant-steps g l =
     let faults = faults_of g.F.Tree.faults g.T.Terminal.faults in
     let first = seen l.fn.tree l.fn.terminal in
     record {
-      within : l.mouth.spent ≤ l.fn.budget;
+      within : l.mouth.spent ≤ l.budget;
+      asked : l.budget ≡ l.fn.job.budget;
+      bounded : l.budget ≤ 1099511627776;
       opened : AllOpen (g.F.Tree.is_open l.tree) l.journal.pen.created;
       later : NoneFell (faults l.fn.tree l.fn.terminal) (faults l.tree l.terminal);
-      going : g.F.Tree.tells → g.T.Terminal.tells → (job : Job) → IsFor job first → job.name ≡ l.fn.name → job.budget ≡ l.fn.budget → Going job first l.mouth l.journal (seen l.tree l.terminal);
+      going : g.F.Tree.tells → g.T.Terminal.tells → (start : Start) → IsFor start first → start.job ≡ l.fn.job → Going start first l.mouth l.journal (seen l.tree l.terminal);
     }
 
 abbrev pub decreases-steps : goal.decreases-steps
-decreases-steps g l = l.fn.budget - l.mouth.spent
+decreases-steps g l = l.budget - l.mouth.spent
 
 abbrev pub invariant-free : goal.invariant-free
 invariant-free g l =
@@ -28,10 +30,12 @@ invariant-free g l =
     let first = seen l.fn.tree l.fn.terminal in
     record {
       same : l.mouth.spent ≡ l.before;
-      within : l.mouth.spent ≤ l.fn.budget;
+      within : l.mouth.spent ≤ l.budget;
+      asked : l.budget ≡ l.fn.job.budget;
+      bounded : l.budget ≤ 1099511627776;
       opened : AllOpen (g.F.Tree.is_open l.tree) l.journal.pen.created;
       later : NoneFell (faults l.fn.tree l.fn.terminal) (faults l.tree l.terminal);
-      going : g.F.Tree.tells → g.T.Terminal.tells → (job : Job) → IsFor job first → job.name ≡ l.fn.name → job.budget ≡ l.fn.budget → Going job first l.mouth l.journal (seen l.tree l.terminal);
+      going : g.F.Tree.tells → g.T.Terminal.tells → (start : Start) → IsFor start first → start.job ≡ l.fn.job → Going start first l.mouth l.journal (seen l.tree l.terminal);
     }
 
 abbrev pub decreases-free : goal.decreases-free

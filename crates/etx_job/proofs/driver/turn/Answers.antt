@@ -2,80 +2,96 @@ use Rattle.std.proofs.Common.{◌≡◌, ◌<◌, ◌≤◌, refl, sym, ◌∙�
 use Rattle.etx_job.specs.declared.mouth.Yield.{Yield}
 use Rattle.etx_job.specs.declared.mouth.Yield.TheVariants.{Load}
 use Rattle.etx_job.specs.declared.mouth.Mouth.{Mouth}
-use Rattle.etx_job.specs.Turn.{turn_of, line_of}
+use Rattle.etx_job.specs.Turn.{turn_of, line_number_of}
+use Rattle.etx_outside.proofs.Outsides.{front_all}
 use Rattle.etx_job.specs.Chain.{closing}
 use Rattle.etx_job.specs.Going.{more_waiting}
-use Rattle.etx_job.proofs.Turns.{going_is, over_is, asks_is, turn_quiet, turn_act, turn_done, turn_spent, turn_asks}
+use Rattle.etx_job.proofs.Turns.{cut_going, going_flushed, going_is, over_is, asks_is, turn_quiet, turn_act, turn_done, turn_spent, turn_asks}
 use Rattle.etx_job.proofs.driver.turn.Goals as goal
 
 pub returns-then-mouth-budget-clause-going : goal.returns-then-mouth-budget-clause-going
-returns-then-mouth-budget-clause-going g c = λ a b job first files budget going.
+returns-then-mouth-budget-clause-going g c = λ a b start first files budget going.
     let spent : c.turn.new.self.spent ≡ (turn_of c.args.mouth.now).now.spent = ap (λ (m : Mouth). m.spent) c.in_ok-did.ensures.now in
-    let over : job.budget < (turn_of c.args.mouth.now).now.spent = omega arith in
+    let over : start.job.budget < (turn_of c.args.mouth.now).now.spent = omega arith in
     over_is (turn_spent going over) c.in_ok-close.ensures
 
 pub returns-in-Quiet-clause-going : goal.returns-in-Quiet-clause-going
-returns-in-Quiet-clause-going g c = λ a b job first files budget going.
+returns-in-Quiet-clause-going g c = λ a b start first files budget going.
     let spent : c.turn.new.self.spent ≡ (turn_of c.args.mouth.now).now.spent = ap (λ (m : Mouth). m.spent) c.in_ok-did.ensures.now in
-    let within : (turn_of c.args.mouth.now).now.spent ≤ job.budget = omega arith in
+    let within : (turn_of c.args.mouth.now).now.spent ≤ start.job.budget = omega arith in
     going_is (turn_quiet going within (sym c.in_ok-did.ensures.did ∙ c.in-Quiet.is)) c.in_ok-did.ensures.now refl
 
-pub returns-in_ok-push-in-Act-clause-going : goal.returns-in_ok-push-in-Act-clause-going
-returns-in_ok-push-in-Act-clause-going g c = λ a b job first files budget going.
+pub returns-in_err-flush-in-Act-clause-cut : goal.returns-in_err-flush-in-Act-clause-cut
+returns-in_err-flush-in-Act-clause-cut g c = λ a b start first files budget going.
     let spent : c.turn.new.self.spent ≡ (turn_of c.args.mouth.now).now.spent = ap (λ (m : Mouth). m.spent) c.in_ok-did.ensures.now in
-    let within : (turn_of c.args.mouth.now).now.spent ≤ job.budget = omega arith in
-    going_is (turn_act going c.in-Act.deed within (sym c.in_ok-did.ensures.did ∙ c.in-Act.is)) c.in_ok-did.ensures.now c.in_ok-push-in-Act.ensures
+    let within : (turn_of c.args.mouth.now).now.spent ≤ start.job.budget = omega arith in
+    let acted = going_is (turn_act going c.in-Act.deed within (sym c.in_ok-did.ensures.did ∙ c.in-Act.is)) c.in_ok-did.ensures.now c.in_ok-push-in-Act.ensures in
+    cut_going acted (c.in_err-flush-in-Act.ensures.front a b)
+
+pub returns-in_ok-flush-in-Act-clause-cut : goal.returns-in_ok-flush-in-Act-clause-cut
+returns-in_ok-flush-in-Act-clause-cut g c = λ a b start first files budget going.
+    let spent : c.turn.new.self.spent ≡ (turn_of c.args.mouth.now).now.spent = ap (λ (m : Mouth). m.spent) c.in_ok-did.ensures.now in
+    let within : (turn_of c.args.mouth.now).now.spent ≤ start.job.budget = omega arith in
+    let acted = going_is (turn_act going c.in-Act.deed within (sym c.in_ok-did.ensures.did ∙ c.in-Act.is)) c.in_ok-did.ensures.now c.in_ok-push-in-Act.ensures in
+    cut_going acted (front_all (c.in_ok-flush-in-Act.ensures.ok a b))
+
+pub returns-in_ok-flush-in-Act-clause-going : goal.returns-in_ok-flush-in-Act-clause-going
+returns-in_ok-flush-in-Act-clause-going g c = λ a b start first files budget going.
+    let spent : c.turn.new.self.spent ≡ (turn_of c.args.mouth.now).now.spent = ap (λ (m : Mouth). m.spent) c.in_ok-did.ensures.now in
+    let within : (turn_of c.args.mouth.now).now.spent ≤ start.job.budget = omega arith in
+    let acted = going_is (turn_act going c.in-Act.deed within (sym c.in_ok-did.ensures.did ∙ c.in-Act.is)) c.in_ok-did.ensures.now c.in_ok-push-in-Act.ensures in
+    going_is (going_flushed acted (c.in_ok-flush-in-Act.ensures.ok a b)) refl c.in_ok-flush-in-Act.ensures.journal
 
 pub returns-in_ok-close-in-Done-clause-going : goal.returns-in_ok-close-in-Done-clause-going
-returns-in_ok-close-in-Done-clause-going g c = λ a b job first files budget going.
+returns-in_ok-close-in-Done-clause-going g c = λ a b start first files budget going.
     let spent : c.turn.new.self.spent ≡ (turn_of c.args.mouth.now).now.spent = ap (λ (m : Mouth). m.spent) c.in_ok-did.ensures.now in
-    let within : (turn_of c.args.mouth.now).now.spent ≤ job.budget = omega arith in
-    over_is (turn_done going c.in-Done.end within (sym c.in_ok-did.ensures.did ∙ c.in-Done.is)) (c.in_ok-close-in-Done.ensures ∙ ap (λ (n : ℕ). more_waiting c.args.journal.now (closing c.in-Done.end n)) (c.line.ensures ∙ ap line_of c.in_ok-did.ensures.now))
+    let within : (turn_of c.args.mouth.now).now.spent ≤ start.job.budget = omega arith in
+    over_is (turn_done going c.in-Done.end within (sym c.in_ok-did.ensures.did ∙ c.in-Done.is)) (c.in_ok-close-in-Done.ensures ∙ ap (λ (n : ℕ). more_waiting c.args.journal.now (closing c.in-Done.end n)) (c.line.ensures ∙ ap line_number_of c.in_ok-did.ensures.now))
 
 pub returns-in_err-ask-in-Load-clause-cut : goal.returns-in_err-ask-in-Load-clause-cut
-returns-in_err-ask-in-Load-clause-cut g c = λ a b job first files budget going.
+returns-in_err-ask-in-Load-clause-cut g c = λ a b start first files budget going.
     let spent : c.turn.new.self.spent ≡ (turn_of c.args.mouth.now).now.spent = ap (λ (m : Mouth). m.spent) c.in_ok-did.ensures.now in
-    let within : (turn_of c.args.mouth.now).now.spent ≤ job.budget = omega arith in
+    let within : (turn_of c.args.mouth.now).now.spent ≤ start.job.budget = omega arith in
     c.in_err-ask-in-Load.ensures.cut
     a
     b
-    job
+    start
     first
     files
     (asks_is (turn_asks going c.in-Load.name within (sym c.in_ok-did.ensures.did ∙ c.in-Load.is)) c.in_ok-did.ensures.now c.as_slice.ensures.same)
 
 pub returns-in_ok-ask-in-Load-clause-cut : goal.returns-in_ok-ask-in-Load-clause-cut
-returns-in_ok-ask-in-Load-clause-cut g c = λ a b job first files budget going.
+returns-in_ok-ask-in-Load-clause-cut g c = λ a b start first files budget going.
     let spent : c.turn.new.self.spent ≡ (turn_of c.args.mouth.now).now.spent = ap (λ (m : Mouth). m.spent) c.in_ok-did.ensures.now in
-    let within : (turn_of c.args.mouth.now).now.spent ≤ job.budget = omega arith in
+    let within : (turn_of c.args.mouth.now).now.spent ≤ start.job.budget = omega arith in
     c.in_ok-ask-in-Load.ensures.cut
     a
     b
-    job
+    start
     first
     files
     (asks_is (turn_asks going c.in-Load.name within (sym c.in_ok-did.ensures.did ∙ c.in-Load.is)) c.in_ok-did.ensures.now c.as_slice.ensures.same)
 
 pub returns-in_ok-ask-in-Load-clause-going : goal.returns-in_ok-ask-in-Load-clause-going
-returns-in_ok-ask-in-Load-clause-going g c = λ a b job first files budget going.
+returns-in_ok-ask-in-Load-clause-going g c = λ a b start first files budget going.
     let spent : c.turn.new.self.spent ≡ (turn_of c.args.mouth.now).now.spent = ap (λ (m : Mouth). m.spent) c.in_ok-did.ensures.now in
-    let within : (turn_of c.args.mouth.now).now.spent ≤ job.budget = omega arith in
+    let within : (turn_of c.args.mouth.now).now.spent ≤ start.job.budget = omega arith in
     c.in_ok-ask-in-Load.ensures.going
     a
     b
-    job
+    start
     first
     files
     (asks_is (turn_asks going c.in-Load.name within (sym c.in_ok-did.ensures.did ∙ c.in-Load.is)) c.in_ok-did.ensures.now c.as_slice.ensures.same)
 
 pub returns-in_err-ask-in-Load-clause-read_at : goal.returns-in_err-ask-in-Load-clause-read_at
-returns-in_err-ask-in-Load-clause-read_at g c = λ fails a b job first budget going.
+returns-in_err-ask-in-Load-clause-read_at g c = λ fails a b start first budget going.
     let spent : c.turn.new.self.spent ≡ (turn_of c.args.mouth.now).now.spent = ap (λ (m : Mouth). m.spent) c.in_ok-did.ensures.now in
-    let within : (turn_of c.args.mouth.now).now.spent ≤ job.budget = omega arith in
+    let within : (turn_of c.args.mouth.now).now.spent ≤ start.job.budget = omega arith in
     c.in_err-ask-in-Load.ensures.read_at
     (search rules)
     a
     b
-    job
+    start
     first
     (asks_is (turn_asks going c.in-Load.name within (sym c.in_ok-did.ensures.did ∙ c.in-Load.is)) c.in_ok-did.ensures.now c.as_slice.ensures.same)

@@ -4,7 +4,6 @@ use Rattle.std.proofs.lemmas.List.{append-nil}
 use Rattle.etx_outside.specs.Entries.{Shown, shown, said, asked_in, files_after}
 use Rattle.etx_outside.proofs.Fronts.{map_parts, said-shown}
 use Rattle.etx_outside.proofs.Histories.{asked_in-shown, files_after-shown}
-use Rattle.etx_job.specs.Words.{file_asked}
 use Rattle.etx_job.specs.Meaning.{usage, usage_line}
 use Rattle.etx_job.proofs.Meanings.{usage_of, usage_meant, meaning_of}
 use Rattle.etx_job.proofs.typeset.typeset_alone.Goals as goal
