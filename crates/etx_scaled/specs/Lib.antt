@@ -1,0 +1,4 @@
+pub mod Badness
+pub mod Decimal
+pub mod Division
+pub mod Rounding
