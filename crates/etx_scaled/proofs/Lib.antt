@@ -1,2 +1,7 @@
-mod Divisions
+mod Badnesses
 mod Decimals
+mod Divisions
+mod Products
+mod Readings
+mod Roundings
+mod Texts

@@ -3,12 +3,16 @@
 //! The calls are those of "TeX: The Program", sections 99 to 108, each stated as a fact on whole numbers and fractions.
 #![tactic(auto)]
 
-mod stretching;
 mod decimal;
 mod division;
+mod law;
 mod rounding;
+mod stretching;
+#[cfg(test)]
+mod tests;
 
-pub use stretching::badness;
 pub use decimal::print_scaled;
 pub use division::{nx_plus_y, xn_over_d};
+pub use law::{badness_grows, decimals_read_back, one_nearest, one_quotient};
 pub use rounding::{Ratio, round_half};
+pub use stretching::badness;

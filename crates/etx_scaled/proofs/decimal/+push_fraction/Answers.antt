@@ -1,4 +1,4 @@
-use Rattle.std.proofs.Common.{arith, rules}
+use Rattle.std.proofs.Common.{arith}
 use Rattle.std.proofs.lemmas.Grind.{common_steps}
 use Rattle.etx_scaled.proofs.Decimals.{fraction_digits-none, fraction_digits-last, fraction_digits-more}
 use Rattle.etx_scaled.proofs.decimal.+push_fraction.Goals as goal

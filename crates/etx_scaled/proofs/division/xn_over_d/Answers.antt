@@ -1,6 +1,5 @@
 use Rattle.std.proofs.Common.{rules, arith}
 use Rattle.std.proofs.lemmas.Grind.{common_steps}
-use Rattle.std.proofs.lemmas.Int.{ints}
 use Rattle.etx_scaled.proofs.Divisions.{divided_by}
 use Rattle.etx_scaled.proofs.division.xn_over_d.Goals as goal
 
