@@ -1,10 +1,12 @@
 // How many bytes a command has.
-ghost use Rattle.std.specs.Prelude.{ℕ, ◌≡◌, length, ℤ};
-ghost use Rattle.etx_dvi.specs.Commands.{bytes_of, movement};
+ghost use Rattle.std.specs.Prelude.{ℕ, ◌≡◌, ◌+◌, ◌*◌, length, ℤ};
+ghost use Rattle.etx_dvi.specs.Commands.{bytes_of};
+ghost use Rattle.etx_dvi.specs.Numbers.{width_of};
 
 use crate::command::Dvi;
 
 /// The number of bytes that [`crate::put`] appends.
+#[tactic(auto, using(crate::proofs::Sizes::lengths))]
 pub fn length(c: &Dvi) -> u32
     ensures { result ≡ length (bytes_of c.now) }
 {
@@ -17,10 +19,14 @@ pub fn length(c: &Dvi) -> u32
             }
         }
         Dvi::SetRule { .. } | Dvi::PutRule { .. } => 9,
-        Dvi::Bop { .. } => 45,
+        Dvi::Bop { counts, .. } => page_length(counts),
         Dvi::Eop | Dvi::Push | Dvi::Pop | Dvi::W0 | Dvi::X0 | Dvi::Y0 | Dvi::Z0 => 1,
-        Dvi::Right(amount) | Dvi::W(amount) | Dvi::X(amount) => movement_length(*amount),
-        Dvi::Down(amount) | Dvi::Y(amount) | Dvi::Z(amount) => movement_length(*amount),
+        Dvi::Right(amount) => movement_length(*amount),
+        Dvi::W(amount) => movement_length(*amount),
+        Dvi::X(amount) => movement_length(*amount),
+        Dvi::Down(amount) => movement_length(*amount),
+        Dvi::Y(amount) => movement_length(*amount),
+        Dvi::Z(amount) => movement_length(*amount),
         Dvi::FontNumber(number) => {
             if *number < 64 {
                 1
@@ -39,8 +45,14 @@ pub fn length(c: &Dvi) -> u32
     }
 }
 
+fn page_length(counts: &[i32; 10]) -> u32
+    ensures { result ≡ 5 + 4 * length counts.now }
+{
+    5 + 4 * counts.len() as u32
+}
+
 fn movement_length(amount: i32) -> u32
-    ensures { (before : ℕ) → result ≡ length (movement before amount) }
+    ensures { result ≡ 1 + width_of amount }
 {
     match amount.unsigned_abs() {
         0..=127 => 2,
