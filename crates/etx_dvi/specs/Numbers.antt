@@ -21,13 +21,13 @@ width_of z =
     if nat_lt size 128 then 1 else (if nat_lt size 32768 then 2 else (if nat_lt size 8388608 then 3 else 4))
 
 -- the number that the first bytes of a list write; a byte that isn't there counts as 0
-abbrev pub unsigned_at : ℕ → List ℕ → ℕ
+unfoldable pub unsigned_at : ℕ → List ℕ → ℕ
 unsigned_at zero bs = 0
 unsigned_at (suc k) [] = 0
 unsigned_at (suc k) (b ∷ bs) = b * 256 ^ k + unsigned_at k bs
 
 -- the same in two's complement: the upper half of the numbers stands for those below zero
-abbrev pub signed_at : ℕ → List ℕ → ℤ
+unfoldable pub signed_at : ℕ → List ℕ → ℤ
 signed_at k bs =
     let n = unsigned_at k bs in
     if nat_lt (2 * n) (256 ^ k) then pos n else pos n -ℤ pos (256 ^ k)

@@ -14,6 +14,7 @@ const COMMENT: &[u8; 27] = b" TeX output 1776.07.04:1200";
 
 /// The unit in 10^-7 meters: a scaled point.
 const NUMERATOR: i32 = 25_400_000;
+
 const DENOMINATOR: i32 = 473_628_672;
 
 fn push_four(number: i32, bytes: &mut Vec<u8>) -> Result<(), AllocError>
@@ -41,7 +42,12 @@ fn page(alloc: Global, counts: &[i32; 10], last: i32) -> Result<Vec<u8>, AllocEr
     Ok(bytes)
 }
 
-pub(crate) fn put_page(alloc: Global, counts: &[i32; 10], last: i32, out: &mut Vec<u8>) -> Result<(), AllocError>
+pub(crate) fn put_page(
+    alloc: Global,
+    counts: &[i32; 10],
+    last: i32,
+    out: &mut Vec<u8>,
+) -> Result<(), AllocError>
     ensures ok { OnOk result (out.new.items ≡ out.old.items ++ (139 ∷ flat_map four counts.now ++ four last)) }
     ensures err { OnErr result (out.new.items ≡ out.old.items) }
 {
@@ -71,7 +77,14 @@ pub(crate) fn put_special(alloc: Global, text: &Bytes, out: &mut Vec<u8>) -> Res
     out.extend_from_slice(bytes.as_slice())
 }
 
-fn definition(alloc: Global, number: u8, checksum: u32, size: i32, design_size: i32, name: &FontName) -> Result<Vec<u8>, AllocError>
+fn definition(
+    alloc: Global,
+    number: u8,
+    checksum: u32,
+    size: i32,
+    design_size: i32,
+    name: &FontName,
+) -> Result<Vec<u8>, AllocError>
     ensures { IfOk result (λ bytes. bytes.items ≡ 243 ∷ number ∷ bytes_high_first 4 checksum ++ four size ++ four design_size ++ 0 ∷ length name.now ∷ name.now) }
 {
     let name = name.as_slice();
@@ -85,7 +98,15 @@ fn definition(alloc: Global, number: u8, checksum: u32, size: i32, design_size: 
     Ok(bytes)
 }
 
-pub(crate) fn put_definition(alloc: Global, number: u8, checksum: u32, size: i32, design_size: i32, name: &FontName, out: &mut Vec<u8>) -> Result<(), AllocError>
+pub(crate) fn put_definition(
+    alloc: Global,
+    number: u8,
+    checksum: u32,
+    size: i32,
+    design_size: i32,
+    name: &FontName,
+    out: &mut Vec<u8>,
+) -> Result<(), AllocError>
     ensures ok { OnOk result (out.new.items ≡ out.old.items ++ (243 ∷ number ∷ bytes_high_first 4 checksum ++ four size ++ four design_size ++ 0 ∷ length name.now ∷ name.now)) }
     ensures err { OnErr result (out.new.items ≡ out.old.items) }
 {
@@ -105,7 +126,11 @@ fn pre(alloc: Global, magnification: i32) -> Result<Vec<u8>, AllocError>
     Ok(bytes)
 }
 
-pub(crate) fn put_pre(alloc: Global, magnification: i32, out: &mut Vec<u8>) -> Result<(), AllocError>
+pub(crate) fn put_pre(
+    alloc: Global,
+    magnification: i32,
+    out: &mut Vec<u8>,
+) -> Result<(), AllocError>
     ensures ok { OnOk result (out.new.items ≡ out.old.items ++ (247 ∷ 2 ∷ unit ++ four magnification ++ 27 ∷ comment)) }
     ensures err { OnErr result (out.new.items ≡ out.old.items) }
 {
@@ -113,7 +138,15 @@ pub(crate) fn put_pre(alloc: Global, magnification: i32, out: &mut Vec<u8>) -> R
     out.extend_from_slice(bytes.as_slice())
 }
 
-fn post(alloc: Global, last: i32, magnification: i32, tallest: i32, widest: i32, pushes: u16, pages: u16) -> Result<Vec<u8>, AllocError>
+fn post(
+    alloc: Global,
+    last: i32,
+    magnification: i32,
+    tallest: i32,
+    widest: i32,
+    pushes: u16,
+    pages: u16,
+) -> Result<Vec<u8>, AllocError>
     ensures { IfOk result (λ bytes. bytes.items ≡ 248 ∷ four last ++ unit ++ four magnification ++ four tallest ++ four widest ++ bytes_high_first 2 pushes ++ bytes_high_first 2 pages) }
 {
     let mut bytes = Vec::with_capacity(alloc, 29)?;
@@ -128,7 +161,16 @@ fn post(alloc: Global, last: i32, magnification: i32, tallest: i32, widest: i32,
     Ok(bytes)
 }
 
-pub(crate) fn put_post(alloc: Global, last: i32, magnification: i32, tallest: i32, widest: i32, pushes: u16, pages: u16, out: &mut Vec<u8>) -> Result<(), AllocError>
+pub(crate) fn put_post(
+    alloc: Global,
+    last: i32,
+    magnification: i32,
+    tallest: i32,
+    widest: i32,
+    pushes: u16,
+    pages: u16,
+    out: &mut Vec<u8>,
+) -> Result<(), AllocError>
     ensures ok { OnOk result (out.new.items ≡ out.old.items ++ (248 ∷ four last ++ unit ++ four magnification ++ four tallest ++ four widest ++ bytes_high_first 2 pushes ++ bytes_high_first 2 pages)) }
     ensures err { OnErr result (out.new.items ≡ out.old.items) }
 {

@@ -48,11 +48,20 @@ pub enum Dvi {
     /// Sets a character of the font and moves right by its width: `set_char` below 128, else `set1`.
     SetChar(u8),
     /// Sets a rule and moves right by its width.
-    SetRule { height: i32, width: i32 },
+    SetRule {
+        height: i32,
+        width: i32,
+    },
     /// Sets a rule and moves nowhere.
-    PutRule { height: i32, width: i32 },
+    PutRule {
+        height: i32,
+        width: i32,
+    },
     /// Begins a page: the ten counts that name it, and the place of the page before, or -1.
-    Bop { counts: [i32; 10], last: i32 },
+    Bop {
+        counts: [i32; 10],
+        last: i32,
+    },
     /// Ends a page.
     Eop,
     /// Keeps the place and the four registers w, x, y, z.
@@ -92,7 +101,9 @@ pub enum Dvi {
         name: FontName,
     },
     /// Begins the file, with the magnification times 1000. The unit is the sp, and the comment always the same.
-    Pre { magnification: i32 },
+    Pre {
+        magnification: i32,
+    },
     /// Begins the postamble: the place of the last page or -1, the magnification times 1000, the greatest height plus
     /// depth and the greatest width of a page, the greatest number of open `Push`, and the number of pages, both modulo
     /// 65536.
@@ -105,5 +116,7 @@ pub enum Dvi {
         pages: u16,
     },
     /// Ends the postamble, with the place of its `Post`. Behind it the file is filled up ([`crate::put_tail`]).
-    PostPost { post: i32 },
+    PostPost {
+        post: i32,
+    },
 }

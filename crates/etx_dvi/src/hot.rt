@@ -32,12 +32,32 @@ pub fn put(alloc: Global, c: &Dvi, out: &mut Vec<u8>) -> Result<(), AllocError>
         Dvi::Z(amount) => put_movement(166, *amount, out),
         Dvi::FontNumber(number) => put_font(*number, out),
         Dvi::Special(text) => put_special(alloc, text, out),
-        Dvi::FontDefinition { number, checksum, size, design_size, name } => {
-            put_definition(alloc, *number, *checksum, *size, *design_size, name, out)
-        }
+        Dvi::FontDefinition {
+            number,
+            checksum,
+            size,
+            design_size,
+            name,
+        } => { put_definition(alloc, *number, *checksum, *size, *design_size, name, out) }
         Dvi::Pre { magnification } => put_pre(alloc, *magnification, out),
-        Dvi::Post { last, magnification, tallest, widest, pushes, pages } => {
-            put_post(alloc, *last, *magnification, *tallest, *widest, *pushes, *pages, out)
+        Dvi::Post {
+            last,
+            magnification,
+            tallest,
+            widest,
+            pushes,
+            pages,
+        } => {
+            put_post(
+                alloc,
+                *last,
+                *magnification,
+                *tallest,
+                *widest,
+                *pushes,
+                *pages,
+                out,
+            )
         }
         Dvi::PostPost { post } => put_post_post(*post, out),
     }

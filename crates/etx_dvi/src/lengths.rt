@@ -11,13 +11,7 @@ pub fn length(c: &Dvi) -> u32
     ensures { result ≡ length (bytes_of c.now) }
 {
     match c {
-        Dvi::SetChar(code) => {
-            if *code < 128 {
-                1
-            } else {
-                2
-            }
-        }
+        Dvi::SetChar(code) => { if *code < 128 { 1 } else { 2 } }
         Dvi::SetRule { .. } | Dvi::PutRule { .. } => 9,
         Dvi::Bop { counts, .. } => page_length(counts),
         Dvi::Eop | Dvi::Push | Dvi::Pop | Dvi::W0 | Dvi::X0 | Dvi::Y0 | Dvi::Z0 => 1,
@@ -27,13 +21,7 @@ pub fn length(c: &Dvi) -> u32
         Dvi::Down(amount) => movement_length(*amount),
         Dvi::Y(amount) => movement_length(*amount),
         Dvi::Z(amount) => movement_length(*amount),
-        Dvi::FontNumber(number) => {
-            if *number < 64 {
-                1
-            } else {
-                2
-            }
-        }
+        Dvi::FontNumber(number) => { if *number < 64 { 1 } else { 2 } }
         Dvi::Special(text) => {
             let size = text.len() as u32;
             if size < 256 { 2 + size } else { 5 + size }

@@ -4,13 +4,17 @@
 //! scaled points (sp), 2^-16 of a printer's point.
 #![tactic(auto)]
 
-mod command;
 mod cold;
+mod command;
 mod hot;
+mod law;
 mod lengths;
 mod tail;
+#[cfg(test)]
+mod tests;
 
 pub use command::{Dvi, FontName};
-pub use lengths::length;
 pub use hot::put;
+pub use law::{commands_come_apart, numbers_read_back, tail_fills_up};
+pub use lengths::length;
 pub use tail::put_tail;
