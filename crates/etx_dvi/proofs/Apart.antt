@@ -1,18 +1,18 @@
 -- A reader takes commands apart.
-use Rattle.std.proofs.Common.{◌≡◌, ◌<◌, ◌≤◌, ◌+◌, ◌-◌, ◌*◌, ◌^◌, ◌⊎◌, inl, inr, ℕ, zero, suc, ℤ, FitsSigned, List, [], ◌∷◌, ◌++◌, take, drop, length, nat_lt, true, false, if◌then◌else◌, Option, Some, None, arith, refl, ap, ◌∙◌, sym, append_assoc, All}
+use Rattle.std.proofs.Common.{◌≡◌, ◌≤◌, ◌+◌, ◌-◌, ◌*◌, ◌^◌, inl, inr, ℕ, ℤ, FitsSigned, List, [], ◌∷◌, ◌++◌, drop, length, nat_lt, true, false, Option, Some, None, arith, refl, ap, ◌∙◌, sym, append_assoc, All}
 use Rattle.std.proofs.Math.Seq.{take-append_seam, drop-append_seam}
 use Rattle.std.proofs.lemmas.Bool.{cases_lt}
 use Rattle.std.proofs.lemmas.Bool.Decides.{nat_tests}
 use Rattle.std.proofs.lemmas.List.Elements.{All-head, All-tail}
 use Rattle.std.specs.List.{flat_map}
-use Rattle.std.specs.Int.{w32, bytes_high_first}
+use Rattle.std.specs.Int.{w32}
 use Rattle.etx_dvi.specs.declared.command.Dvi.{Dvi}
 use Rattle.etx_dvi.specs.declared.command.Dvi.TheVariants.{SetChar, SetRule, PutRule, Bop, Eop, Push, Pop, Right, W0, W, X0, X, Down, Y0, Y, Z0, Z, FontNumber, Special, FontDefinition, Pre, Post, PostPost}
-use Rattle.etx_dvi.specs.Commands.{bytes_of, movement, unit, comment}
+use Rattle.etx_dvi.specs.Commands.{bytes_of, movement, comment}
 use Rattle.etx_dvi.specs.Kept.{IsKept}
-use Rattle.etx_dvi.specs.Numbers.{four, signed_bytes, width_of, unsigned_at, signed_at}
+use Rattle.etx_dvi.specs.Numbers.{four, signed_bytes, signed_at}
 use Rattle.etx_dvi.specs.Reading.{Taken, moved, with_text, counts_at, read_low, read_high, read_command}
-use Rattle.etx_dvi.proofs.Values.{one_read, two_read, four_read, signed_one, signed_two, signed_three, signed_four, Width, one, two, three, whole, width, counts_read, counts_dropped}
+use Rattle.etx_dvi.proofs.Values.{one_read, two_read, four_read, signed_one, signed_two, signed_three, signed_four, one, two, three, whole, width, counts_read, counts_dropped}
 
 -- a character
 char_read : (code : ℕ) (bs : List ℕ) → read_command (bytes_of (SetChar code) ++ bs) ≡ Some (SetChar code, bs)

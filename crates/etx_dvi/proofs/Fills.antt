@@ -1,5 +1,5 @@
 -- A file is filled up to a multiple of four bytes.
-use Rattle.std.proofs.Common.{◌≡◌, ◌≤◌, ◌+◌, ◌-◌, ◌%◌, ℕ, length, replicate, arith}
+use Rattle.std.proofs.Common.{◌≡◌, ◌≤◌, ◌+◌, ◌%◌, ℕ, length, arith}
 use Rattle.std.proofs.lemmas.List.{length-replicate}
 use Rattle.etx_dvi.specs.Tail.{tail_length, tail_of}
 

@@ -1,12 +1,12 @@
 -- Numbers that are written as bytes read as the numbers.
-use Rattle.std.proofs.Common.{◌≡◌, ◌<◌, ◌≤◌, ◌+◌, ◌-◌, ◌*◌, ◌%◌, ◌^◌, ◌⊎◌, inl, inr, ℕ, zero, suc, ℤ, pos, negsuc, ◌-ℤ◌, FitsSigned, unsigned_abs, List, [], ◌∷◌, ◌++◌, take, drop, length, nat_lt, true, false, if◌then◌else◌, arith, refl, ap, ◌∙◌, append_assoc, All}
+use Rattle.std.proofs.Common.{◌≡◌, ◌<◌, ◌≤◌, ◌-◌, ◌*◌, ◌%◌, ◌^◌, inl, inr, ℕ, suc, ℤ, pos, negsuc, ◌-ℤ◌, FitsSigned, unsigned_abs, List, [], ◌∷◌, ◌++◌, drop, length, nat_lt, true, false, arith, refl, ◌∙◌, All}
 use Rattle.std.proofs.lemmas.Bool.{cases_lt}
 use Rattle.std.proofs.lemmas.Bool.Decides.{nat_tests}
 use Rattle.std.proofs.lemmas.List.Elements.{All-head, All-tail}
 use Rattle.std.proofs.lemmas.Int.{ints}
 use Rattle.std.specs.List.{flat_map}
 use Rattle.std.specs.Int.{w32, bytes_high_first}
-use Rattle.etx_dvi.specs.Numbers.{complement, four, signed_bytes, width_of, unsigned_at, signed_at}
+use Rattle.etx_dvi.specs.Numbers.{four, signed_bytes, width_of, unsigned_at, signed_at}
 use Rattle.etx_dvi.specs.Reading.{counts_at}
 
 -- what is left of a number in so many bytes

@@ -1,5 +1,5 @@
 -- What the types of a command keep: the ranges of its numbers, and the lengths of its lists.
-use Rattle.std.specs.Prelude.{ℕ, ◌<◌, ◌≤◌, ◌^◌, ◌≡◌, ℤ, length, All, FitsSigned}
+use Rattle.std.specs.Prelude.{◌<◌, ◌≤◌, ◌^◌, ◌≡◌, length, All, FitsSigned}
 use Rattle.std.specs.Int.{w32}
 use Rattle.etx_dvi.specs.declared.command.Dvi.{Dvi}
 use Rattle.etx_dvi.specs.declared.command.Dvi.TheVariants.{SetChar, SetRule, PutRule, Bop, Eop, Push, Pop, Right, W0, W, X0, X, Down, Y0, Y, Z0, Z, FontNumber, Special, FontDefinition, Pre, Post, PostPost}

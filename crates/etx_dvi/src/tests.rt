@@ -60,13 +60,13 @@ fn a_file_of_one_page(rt: HostRuntime) -> Result<(), Fail> {
         Dvi::PostPost { post: 113 },
     ];
     let mut out = Vec::new(rt.alloc());
-    let mut place = 0u64;
+    let mut place = 0u32;
     for c in &commands {
-        place += length(c) as u64;
+        place = place.wrapping_add(length(c));
         put(rt.alloc(), c, &mut out)?;
     }
     assert_eq!(rt; place, 166);
-    put_tail(166, &mut out)?;
+    put_tail(place, &mut out)?;
     assert_eq!(rt; out.as_slice(), FILE.as_slice());
     Ok(())
 }
