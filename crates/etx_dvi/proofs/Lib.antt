@@ -1,0 +1,4 @@
+mod Apart
+mod Fills
+mod Sizes
+mod Values

@@ -1,0 +1,7 @@
+mod Badnesses
+mod Decimals
+mod Divisions
+mod Products
+mod Readings
+mod Roundings
+mod Texts

@@ -1,0 +1,8 @@
+use Rattle.etx_scaled.proofs.Badnesses.{badness_most, badness_grows}
+use Rattle.etx_scaled.proofs.law.badness_grows.Goals as goal
+
+pub returns-clause-most : goal.returns-clause-most
+returns-clause-most c = badness_most
+
+pub returns-clause-grows : goal.returns-clause-grows
+returns-clause-grows c = badness_grows

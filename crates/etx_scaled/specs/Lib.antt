@@ -1,0 +1,5 @@
+pub mod Badness
+pub mod Decimal
+pub mod Division
+pub mod Reading
+pub mod Rounding
