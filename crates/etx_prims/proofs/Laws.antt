@@ -1,5 +1,6 @@
 -- A name stands for one primitive.
-use Rattle.std.proofs.Common.{◌≡◌, ◌≢◌, ◌↔◌, ◌∙◌, sym, ap, All, IfSome, IfNone, Some, None, Option, List, ℕ, get_or, drop}
+use Rattle.std.proofs.Common.{◌≡◌, ◌≢◌, ◌↔◌, ◌∙◌, sym, ap, All, IfSome, IfNone, Some, None, Option, Bool, IsTrue, nat_eq, List, ℕ, get_or, drop}
+use Rattle.std.specs.Cmp.Lexicographic.{pointwise, bytes_decides}
 use Rattle.std.proofs.lemmas.List.Elements.{All-contains}
 use Rattle.etx_prims.specs.declared.table.TheConstants.{SORTED}
 use Rattle.etx_prims.specs.declared.primitive.Prim.{Prim}
@@ -25,3 +26,8 @@ found_by_table None name found absent p = (λ e. cc, λ e. absurd (All-contains 
 pub absent_by_table : (result : Option Prim) (name : List ℕ) → IfNone result (All (λ p. name ≢ name_of p) SORTED) → IfNone result ((p : Prim) → name ≢ name_of p)
 absent_by_table (Some q) name absent = tt
 absent_by_table None name absent = λ p. All-contains (λ p. name ≢ name_of p) SORTED p absent (Contains-SORTED p)
+
+-- a test of the names of two primitives tells them apart
+pub tells_apart : (p q : Prim) (r : Bool) → r ≡ pointwise nat_eq (name_of p) (name_of q) → IsTrue r ↔ (p ≡ q)
+tells_apart p q r e =
+    (λ yes. same_name p q ((bytes_decides (name_of p) (name_of q)).0 (sym e ∙ yes)), λ same. e ∙ (bytes_decides (name_of p) (name_of q)).1 (ap name_of same))

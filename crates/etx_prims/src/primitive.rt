@@ -317,3 +317,27 @@ pub fn name_of(primitive: Prim) -> &'static [u8]
         Prim::NonScript => b"nonscript",
     }
 }
+
+/// Two commands are equal exactly where they are the same command, which is where their names are equal.
+impl PartialEq for Prim {
+    ghost use Rattle.std.specs.Prelude.{◌↔◌, IsTrue, nat_eq};
+    ghost use Rattle.std.specs.Cmp.{partial_equiv_from_equiv};
+    ghost use Rattle.std.specs.Cmp.Lexicographic.{pointwise, on_texts_equal};
+
+    ghost eq = { λ p q. pointwise nat_eq (name_of p) (name_of q) };
+
+    ghost laws = { partial_equiv_from_equiv (on_texts_equal name_of) };
+
+    fn eq(&self, other: &Prim) -> bool
+        ensures by_names { result ≡ pointwise nat_eq (name_of self.now) (name_of other.now) }
+        ensures same { IsTrue result ↔ (self.now ≡ other.now) }
+    {
+        name_of(*self) == name_of(*other)
+    }
+}
+
+impl Eq for Prim {
+    ghost use Rattle.std.specs.Cmp.Lexicographic.{on_texts_equal};
+
+    ghost laws = { on_texts_equal name_of };
+}

@@ -416,3 +416,6 @@ pub fn lookup(name: &[u8]) -> Option<Prim>
 {
     find(&SORTED, name)
 }
+
+#[cfg(test)]
+mod tests;
