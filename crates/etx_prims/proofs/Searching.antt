@@ -1,10 +1,10 @@
 -- A binary search in a table whose keys, lists of bytes, rise.
-use Rattle.std.proofs.Common.{suc, zero, add-one, ◌≡◌, ◌≢◌, ℕ, ◌+◌, ◌<◌, ◌≤◌, ◌&&◌, List, [], ◌∷◌, length, get_or, Bool, true, false, refl, sym, ◌∙◌, ap, subst, arith, inl, inr, ◌⊎◌}
+use Rattle.std.proofs.Common.{suc, zero, ◌≡◌, ◌≢◌, ℕ, ◌+◌, ◌<◌, ◌&&◌, List, [], ◌∷◌, length, get_or, Bool, true, false, refl, sym, ◌∙◌, ap, subst, arith, inl, inr}
 use Rattle.std.specs.declared.cmp.Ordering.{Ordering}
 use Rattle.std.specs.declared.cmp.Ordering.TheVariants.{Less, Equal, Greater}
-use Rattle.std.specs.Ordering.{nat_cmp, is_lt, ordering_reverse, ordering_then}
+use Rattle.std.specs.Ordering.{nat_cmp, is_lt, ordering_reverse}
 use Rattle.std.specs.Cmp.Lexicographic.{slice_cmp}
-use Rattle.std.specs.List.{All, AllWithin}
+use Rattle.std.specs.List.{All}
 use Rattle.std.specs.List.Sorted.{IsSortedByKey, IsPartitionPoint}
 use Rattle.std.proofs.lemmas.Cmp.{nat_list_cmp_total, tied_itself}
 use Rattle.std.proofs.lemmas.Bool.{cases_lt, and_parts}
@@ -46,10 +46,10 @@ module _ {X : Type 0} (key : X → List ℕ) where
       → All (λ y. wanted ≢ key y) xs
   All-split wanted xs i split k d high e =
       let same : slice_cmp nat_cmp (key (get_or xs k d)) wanted ≡ Equal =
-        subst (λ (w : List ℕ). slice_cmp nat_cmp w wanted ≡ Equal) e (tied_itself nat_list_cmp_total wanted) in
+      subst (λ (w : List ℕ). slice_cmp nat_cmp w wanted ≡ Equal) e (tied_itself nat_list_cmp_total wanted) in
       elim (cases_lt k i) [
-        inl below ↦ let less = split.0 k d (omega arith) below in cc
-      | inr above ↦ let greater = split.1 k d above high in cc
+        | inl below ↦ let less = split.0 k d (omega arith) below in cc
+        | inr above ↦ let greater = split.1 k d above high in cc
       ]
 
   less_than : (x : X) (xs : List X) → rises_from x xs ≡ true → (j : ℕ) (d : X) → j < length xs → slice_cmp nat_cmp (key x) (key (get_or xs j d)) ≡ Less

@@ -1,5 +1,5 @@
 -- The names of the table of the look-up rise.
-use Rattle.std.proofs.Common.{◌≡◌, ℕ, true, refl, get_or, drop}
+use Rattle.std.proofs.Common.{◌≡◌, true, refl, get_or, drop}
 use Rattle.etx_prims.specs.declared.table.TheConstants.{SORTED}
 use Rattle.etx_prims.specs.declared.primitive.Prim.{Prim}
 use Rattle.etx_prims.specs.declared.primitive.Prim.TheVariants as prims

@@ -15,12 +15,26 @@ mod primitive;
 mod quantities;
 mod table;
 
-pub use assignments::{ArithmeticKind, CharDefKind, DefKind, HyphenDataKind, InteractionKind, LetKind, PrefixKind, ReadKind};
+pub use assignments::{
+    ArithmeticKind, CharDefKind, DefKind, HyphenDataKind, InteractionKind, LetKind, PrefixKind,
+    ReadKind,
+};
 pub use expansion::{ConvertKind, ExpandKind, FiOrElseKind, IfKind, InputKind, MarkKind, TheKind};
-pub use general::{AfterKind, CaseShiftKind, ExtensionKind, GroupEdge, InStreamKind, MessageKind, ShowKind};
-pub use material::{DiscretionaryKind, EndCellKind, HMoveKind, InsertKind, LeadersKind, MakeBoxKind, MarkClassKind, RemoveItemKind, SkipKind, StartParKind, UnboxKind, VMoveKind};
-pub use math::{EqNoKind, FractionKind, LeftRightKind, LimitSwitchKind, MathComponentKind, MathStyleKind};
+pub use general::{
+    AfterKind, CaseShiftKind, ExtensionKind, GroupEdge, InStreamKind, MessageKind, ShowKind,
+};
+pub use material::{
+    DiscretionaryKind, EndCellKind, HMoveKind, InsertKind, LeadersKind, MakeBoxKind, MarkClassKind,
+    RemoveItemKind, SkipKind, StartParKind, UnboxKind, VMoveKind,
+};
+pub use math::{
+    EqNoKind, FractionKind, LeftRightKind, LimitSwitchKind, MathComponentKind, MathStyleKind,
+};
 pub use parameters::{DimenParam, GlueParam, IntParam, MuGlueParam, TokenParam};
 pub use primitive::{Prim, name_of};
-pub use quantities::{AuxKind, BoxDimenKind, CodeKind, ExpressionKind, FamilyFontKind, FontCharKind, FontIntKind, GlueConversionKind, GluePartKind, LastItemKind, PageDimenKind, PageIntKind, ParShapeItemKind, ReadOnlyIntKind, RegisterKind};
+pub use quantities::{
+    AuxKind, BoxDimenKind, CodeKind, ExpressionKind, FamilyFontKind, FontCharKind, FontIntKind,
+    GlueConversionKind, GluePartKind, LastItemKind, PageDimenKind, PageIntKind, ParShapeItemKind,
+    ReadOnlyIntKind, RegisterKind,
+};
 pub use table::lookup;

@@ -2,7 +2,7 @@ ghost use Rattle.std.specs.Prelude.{◌≡◌};
 ghost use Rattle.etx_prims.specs.Parameters.{int_param_name, dimen_param_name, glue_param_name, mu_glue_param_name, token_param_name};
 
 /// An integer parameter.
-#[derive(Clone, Copy, Debug, PartialEq, Eq)]
+#[derive(Clone, Copy, Debug, PartialEq, Eq, PartialOrd, Ord)]
 pub enum IntParam {
     Pretolerance,
     Tolerance,
@@ -138,7 +138,7 @@ impl IntParam {
 }
 
 /// A dimension parameter.
-#[derive(Clone, Copy, Debug, PartialEq, Eq)]
+#[derive(Clone, Copy, Debug, PartialEq, Eq, PartialOrd, Ord)]
 pub enum DimenParam {
     ParIndent,
     MathSurround,
@@ -196,7 +196,7 @@ impl DimenParam {
 }
 
 /// A glue parameter.
-#[derive(Clone, Copy, Debug, PartialEq, Eq)]
+#[derive(Clone, Copy, Debug, PartialEq, Eq, PartialOrd, Ord)]
 pub enum GlueParam {
     LineSkip,
     BaselineSkip,
@@ -242,7 +242,7 @@ impl GlueParam {
 }
 
 /// A parameter of math glue.
-#[derive(Clone, Copy, Debug, PartialEq, Eq)]
+#[derive(Clone, Copy, Debug, PartialEq, Eq, PartialOrd, Ord)]
 pub enum MuGlueParam {
     ThinMuSkip,
     MedMuSkip,
@@ -264,7 +264,7 @@ impl MuGlueParam {
 }
 
 /// A parameter that holds a token list.
-#[derive(Clone, Copy, Debug, PartialEq, Eq)]
+#[derive(Clone, Copy, Debug, PartialEq, Eq, PartialOrd, Ord)]
 pub enum TokenParam {
     Output,
     EveryPar,

@@ -1,13 +1,30 @@
 ghost use Rattle.std.specs.Prelude.{◌≡◌};
 ghost use Rattle.etx_prims.specs.Names.{name_of};
 
+use crate::assignments::{
+    ArithmeticKind, CharDefKind, DefKind, HyphenDataKind, InteractionKind, LetKind, PrefixKind,
+    ReadKind,
+};
+use crate::expansion::{
+    ConvertKind, ExpandKind, FiOrElseKind, IfKind, InputKind, MarkKind, TheKind,
+};
+use crate::general::{
+    AfterKind, CaseShiftKind, ExtensionKind, GroupEdge, InStreamKind, MessageKind, ShowKind,
+};
+use crate::material::{
+    DiscretionaryKind, EndCellKind, HMoveKind, InsertKind, LeadersKind, MakeBoxKind, MarkClassKind,
+    RemoveItemKind, SkipKind, StartParKind, UnboxKind, VMoveKind,
+};
+use crate::math::{
+    EqNoKind, FractionKind, LeftRightKind, LimitSwitchKind, MathComponentKind, MathStyleKind,
+};
 use crate::parameters::{DimenParam, GlueParam, IntParam, MuGlueParam, TokenParam};
-use crate::expansion::{ConvertKind, ExpandKind, FiOrElseKind, IfKind, InputKind, MarkKind, TheKind};
-use crate::quantities::{AuxKind, BoxDimenKind, CodeKind, ExpressionKind, FamilyFontKind, FontCharKind, FontIntKind, GlueConversionKind, GluePartKind, LastItemKind, PageDimenKind, PageIntKind, ParShapeItemKind, ReadOnlyIntKind, RegisterKind};
-use crate::assignments::{ArithmeticKind, CharDefKind, DefKind, HyphenDataKind, InteractionKind, LetKind, PrefixKind, ReadKind};
-use crate::general::{AfterKind, CaseShiftKind, ExtensionKind, GroupEdge, InStreamKind, MessageKind, ShowKind};
-use crate::material::{DiscretionaryKind, EndCellKind, HMoveKind, InsertKind, LeadersKind, MakeBoxKind, MarkClassKind, RemoveItemKind, SkipKind, StartParKind, UnboxKind, VMoveKind};
-use crate::math::{EqNoKind, FractionKind, LeftRightKind, LimitSwitchKind, MathComponentKind, MathStyleKind};
+use crate::quantities::{
+    AuxKind, BoxDimenKind, CodeKind, ExpressionKind, FamilyFontKind, FontCharKind, FontIntKind,
+    GlueConversionKind, GluePartKind, LastItemKind, PageDimenKind, PageIntKind, ParShapeItemKind,
+    ReadOnlyIntKind, RegisterKind,
+};
+use std::fmt;
 
 /// A primitive command, by families: names that differ in the quantity that they read or set, in a direction, in an
 /// order or in a kind alone are one family, with a payload that says which.
@@ -340,4 +357,11 @@ impl Eq for Prim {
     ghost use Rattle.std.specs.Cmp.Lexicographic.{on_texts_equal};
 
     ghost laws = { on_texts_equal name_of };
+}
+
+/// Shows the name.
+impl fmt::Debug for Prim {
+    fn fmt<W: fmt::Write>(&self, f: &mut fmt::Formatter<W>) -> fmt::Result {
+        f.write_str(str::from_utf8(name_of(*self)).unwrap_or("Prim"))
+    }
 }

@@ -2,7 +2,7 @@ ghost use Rattle.std.specs.Prelude.{◌≡◌};
 ghost use Rattle.etx_prims.specs.Quantities.{register_name, register_definer_name, code_name, font_int_name, family_font_name, box_dimen_name, aux_name, page_int_name, page_dimen_name, last_item_name, read_only_int_name, font_char_name, par_shape_item_name, glue_part_name, glue_conversion_name, expression_name};
 
 /// A kind of register.
-#[derive(Clone, Copy, Debug, PartialEq, Eq)]
+#[derive(Clone, Copy, Debug, PartialEq, Eq, PartialOrd, Ord)]
 pub enum RegisterKind {
     Count,
     Dimen,
@@ -42,7 +42,7 @@ impl RegisterKind {
 }
 
 /// A code that each character has.
-#[derive(Clone, Copy, Debug, PartialEq, Eq)]
+#[derive(Clone, Copy, Debug, PartialEq, Eq, PartialOrd, Ord)]
 pub enum CodeKind {
     Cat,
     Math,
@@ -70,7 +70,7 @@ impl CodeKind {
 }
 
 /// A number that each font has.
-#[derive(Clone, Copy, Debug, PartialEq, Eq)]
+#[derive(Clone, Copy, Debug, PartialEq, Eq, PartialOrd, Ord)]
 pub enum FontIntKind {
     HyphenChar,
     SkewChar,
@@ -90,7 +90,7 @@ impl FontIntKind {
 }
 
 /// A size of a math family.
-#[derive(Clone, Copy, Debug, PartialEq, Eq)]
+#[derive(Clone, Copy, Debug, PartialEq, Eq, PartialOrd, Ord)]
 pub enum FamilyFontKind {
     Text,
     Script,

@@ -4,14 +4,30 @@ ghost use Rattle.std.specs.Cmp.Lexicographic.{slice_cmp};
 ghost use Rattle.etx_prims.specs.Names.{name_of};
 ghost use Rattle.etx_prims.specs.Rising.{HasRisingNames};
 
+use crate::assignments::{
+    ArithmeticKind, CharDefKind, DefKind, HyphenDataKind, InteractionKind, LetKind, PrefixKind,
+    ReadKind,
+};
+use crate::expansion::{
+    ConvertKind, ExpandKind, FiOrElseKind, IfKind, InputKind, MarkKind, TheKind,
+};
+use crate::general::{
+    AfterKind, CaseShiftKind, ExtensionKind, GroupEdge, InStreamKind, MessageKind, ShowKind,
+};
+use crate::material::{
+    DiscretionaryKind, EndCellKind, HMoveKind, InsertKind, LeadersKind, MakeBoxKind, MarkClassKind,
+    RemoveItemKind, SkipKind, StartParKind, UnboxKind, VMoveKind,
+};
+use crate::math::{
+    EqNoKind, FractionKind, LeftRightKind, LimitSwitchKind, MathComponentKind, MathStyleKind,
+};
 use crate::parameters::{DimenParam, GlueParam, IntParam, MuGlueParam, TokenParam};
-use crate::expansion::{ConvertKind, ExpandKind, FiOrElseKind, IfKind, InputKind, MarkKind, TheKind};
-use crate::quantities::{AuxKind, BoxDimenKind, CodeKind, ExpressionKind, FamilyFontKind, FontCharKind, FontIntKind, GlueConversionKind, GluePartKind, LastItemKind, PageDimenKind, PageIntKind, ParShapeItemKind, ReadOnlyIntKind, RegisterKind};
-use crate::assignments::{ArithmeticKind, CharDefKind, DefKind, HyphenDataKind, InteractionKind, LetKind, PrefixKind, ReadKind};
-use crate::general::{AfterKind, CaseShiftKind, ExtensionKind, GroupEdge, InStreamKind, MessageKind, ShowKind};
-use crate::material::{DiscretionaryKind, EndCellKind, HMoveKind, InsertKind, LeadersKind, MakeBoxKind, MarkClassKind, RemoveItemKind, SkipKind, StartParKind, UnboxKind, VMoveKind};
-use crate::math::{EqNoKind, FractionKind, LeftRightKind, LimitSwitchKind, MathComponentKind, MathStyleKind};
 use crate::primitive::{Prim, name_of};
+use crate::quantities::{
+    AuxKind, BoxDimenKind, CodeKind, ExpressionKind, FamilyFontKind, FontCharKind, FontIntKind,
+    GlueConversionKind, GluePartKind, LastItemKind, PageDimenKind, PageIntKind, ParShapeItemKind,
+    ReadOnlyIntKind, RegisterKind,
+};
 use std::cmp::Ordering;
 
 /// The primitives, by their names, which rise as strings of bytes.

@@ -48,7 +48,8 @@ const NAMES: [&str; 7] = [
 ];
 
 /// Names that real engines have and this one hasn't.
-const ABSENT: &str = "dump valign beginL endL beginR endR TeXXeTstate predisplaydirection lastlinefit savinghyphcodes \
+const ABSENT: &str =
+    "dump valign beginL endL beginR endR TeXXeTstate predisplaydirection lastlinefit savinghyphcodes \
      showbox showlists showgroups showifs interlinepenalties clubpenalties widowpenalties \
      displaywidowpenalties splitdiscards pagediscards savingvdiscards pdfoutput directlua";
 
@@ -73,7 +74,16 @@ fn finds_no_other_name(rt: HostRuntime) {
     for name in ABSENT.split_whitespace() {
         assert!(rt; lookup(name.as_bytes()).is_none(), "at {name}");
     }
-    for name in [b"".as_slice(), b"relaxx", b"rela", b"Relax", b"\\relax", b"  ", b"etexversion", b"zzz"] {
+    for name in [
+        b"".as_slice(),
+        b"relaxx",
+        b"rela",
+        b"Relax",
+        b"\\relax",
+        b"  ",
+        b"etexversion",
+        b"zzz",
+    ] {
         assert!(rt; lookup(name).is_none());
     }
 }
@@ -83,5 +93,10 @@ fn finds_the_command_of_a_name(rt: HostRuntime) {
     assert!(rt; matches!(lookup(b"par"), Some(Prim::Par)));
     assert!(rt; matches!(lookup(b"vfilneg"), Some(Prim::VSkip(SkipKind::FilNeg))));
     assert!(rt; matches!(lookup(b"ifcase"), Some(Prim::Conditional(IfKind::Case))));
-    assert!(rt; matches!(lookup(b"-"), Some(Prim::Discretionary(DiscretionaryKind::Hyphen))));
+    assert!(rt;
+        matches!(
+            lookup(b"-"),
+            Some(Prim::Discretionary(DiscretionaryKind::Hyphen))
+        )
+    );
 }
