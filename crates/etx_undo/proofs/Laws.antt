@@ -1,7 +1,7 @@
 -- What a store promises over any run of sets and goings back.
-use Rattle.std.proofs.Common.{◌≡◌, ℕ, ◌≤◌, List, [], ◌∷◌, refl, sym, ◌∙◌, subst, arith}
+use Rattle.std.proofs.Common.{◌≡◌, ℕ, ◌≤◌, List, [], ◌∷◌, ◌∙◌, subst, arith}
 use Rattle.std.specs.declared.cmp.Ordering.{Ordering}
-use Rattle.etx_undo.specs.History.{Kept, place, present, at, IsSet, IsSince, IsBack, Deed, Sets, Goes, Does, IsFrom, CameBy}
+use Rattle.etx_undo.specs.History.{Kept, place, present, at, IsSince, IsBack, Deed, Sets, Goes, Does, IsFrom, CameBy}
 use Rattle.etx_undo.proofs.Histories.{IsSince-self, IsSince-set, IsSince-back, at-place}
 
 module _ {K V : Type 0} (cmp : K → K → Ordering) where
