@@ -4,7 +4,15 @@
 //! two tries, so that a word is looked up along its letters and no list is gone through.
 #![tactic(auto)]
 
+mod marks;
+mod patterns;
+mod places;
+mod refused;
+mod score;
 mod step;
+mod tables;
 mod trie;
 
+pub use patterns::Patterns;
+pub use refused::PatternRefused;
 pub use step::Step;
