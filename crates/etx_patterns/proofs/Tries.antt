@@ -216,7 +216,8 @@ Grows-with_path tree path same unseen =
         elim (cases_eq (size tree) node) [
           inl last ↦ get_or_push tree.entries None None node (same ∙ last)
         | inr past ↦ get_or_past (tree.entries ++ None ∷ []) node None (omega (arith, length_push tree.entries None))
-        ]
+        ];
+      sizes = length_push tree.entries None ∙ ap (λ n. n + 1) same ∙ sym one
     }
 
 pub IsOnly-with_path : (tree : Tree) (path : List Mark) → ((node : ℕ) → node < size tree → path_at tree node ≢ path) → IsOnly (with_path tree path) path (size tree)
@@ -260,7 +261,8 @@ Grows-trans a b c g h =
         elim (cases_lt node (size b)) [
           inl before ↦ h.entries_kept node before ∙ g.none_noted node high
         | inr beyond ↦ h.none_noted node beyond
-        ]
+        ];
+      sizes = h.sizes
     }
 
 pub Grows-refl : (a : Tree) → length a.entries ≡ size a → Grows a a
@@ -270,7 +272,8 @@ Grows-refl a same =
       paths_kept = λ node low. refl;
       entries_kept = λ node low. refl;
       apart = λ node other high low. absurd (omega arith);
-      none_noted = λ node high. get_or_past a.entries node None (omega arith)
+      none_noted = λ node high. get_or_past a.entries node None (omega arith);
+      sizes = same
     }
 
 pub unseen_nodes : (nodes : List Node) (heads : List Head) (tree : Tree) (at : ℕ) (mark : Mark) → tree_of nodes heads ≡ tree → IsTrie nodes heads

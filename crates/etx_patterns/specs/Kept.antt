@@ -16,6 +16,7 @@ counts_at counts i = slice_index_or counts i false
 -- Each number in the tree leads to a key that is the path there; each key that counts is found by its path; and the
 -- path of each key is among the nodes.
 pub record Indexes (tree : Tree) (keys : List (List Mark)) (counts : List Bool) : Type 0 where
+  pub sizes : length tree.entries ≡ size tree
   pub entry_key : (node i : ℕ) → node < size tree → entry_at tree node ≡ Some i → (i < length keys) × (key_at keys i ≡ path_at tree node)
   pub key_entry : (node i : ℕ) → node < size tree → i < length keys → key_at keys i ≡ path_at tree node → counts_at counts i ≡ true → entry_at tree node ≡ Some i
   pub key_path : (i : ℕ) → i < length keys → ((node : ℕ) → node < size tree → path_at tree node ≢ key_at keys i) → ⊥

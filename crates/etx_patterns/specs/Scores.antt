@@ -5,7 +5,7 @@ use Rattle.etx_patterns.specs.Tree.{Tree, entry_at}
 use Rattle.etx_patterns.specs.Shapes.{digit_from}
 
 -- Each score has risen to a number, if it was less.
-unfoldable pub Raised : List ℕ → List ℕ → (ℕ → ℕ) → Type 0
+abbrev pub Raised : List ℕ → List ℕ → (ℕ → ℕ) → Type 0
 Raised old new by = (place : ℕ) → place < length old → slice_index new place ≡ max (slice_index old place) (by place)
 
 abbrev pub pattern_at : List Pattern → ℕ → Pattern

@@ -114,11 +114,12 @@ AnswersBy refusal (Err NonLetter) = refusal ≡ Some NonLetter
 AnswersBy refusal (Err Duplicate) = refusal ≡ Some Duplicate
 AnswersBy refusal (Err Full) = refusal ≡ Some Full
 
--- The number of the exception with this path.
 abbrev pub exception_at : List Exception → ℕ → Exception
 exception_at exceptions i = slice_index_or exceptions i (record { language = 0; word = []; places = [] })
 
+-- The entry is the number of the one exception with this path.
 pub record IsException (exceptions : List Exception) (path : List Mark) (entry : ℕ) : Type 0 where
   pub within : entry < length exceptions
   pub path_is : exception_path (exception_at exceptions entry) ≡ path
   pub first : exception_of exceptions path ≡ Some (exception_at exceptions entry).places
+  pub only : (other : ℕ) → other < length exceptions → exception_path (exception_at exceptions other) ≡ path → other ≡ entry

@@ -32,3 +32,4 @@ pub record Grows (old new : Tree) : Type 0 where
   pub entries_kept : (node : ℕ) → node < size old → entry_at new node ≡ entry_at old node
   pub apart : (node other : ℕ) → size old ≤ node → node < size new → other < size old → path_at new node ≢ path_at new other
   pub none_noted : (node : ℕ) → size old ≤ node → entry_at new node ≡ None
+  pub sizes : length new.entries ≡ size new

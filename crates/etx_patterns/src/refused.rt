@@ -1,4 +1,5 @@
 ghost use Rattle.std.specs.Prelude.{◌≡◌};
+ghost use Rattle.etx_patterns.specs.declared.refused.PatternRefused.TheVariants.{OutOfMemory};
 
 use std::alloc::AllocError;
 
@@ -16,7 +17,7 @@ pub enum PatternRefused {
 }
 
 impl From<AllocError> for PatternRefused {
-    ghost from_gives = { λ error refused. refused ≡ PatternRefused.OutOfMemory };
+    ghost from_gives = { λ error refused. refused ≡ OutOfMemory };
 
     fn from(_error: AllocError) -> PatternRefused {
         PatternRefused::OutOfMemory

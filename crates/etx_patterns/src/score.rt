@@ -35,7 +35,8 @@ fn score_from(trie: &Trie, patterns: &[Pattern], language: u8, top: usize, marks
 {
     let mut at = top;
     score_entry(trie, patterns, at, start, scores);
-    for mark in &marks[start..] {
+    let rest = &marks[start..];
+    for mark in rest {
         match trie.child(at, *mark) {
             None => return,
             Some(child) => at = child,
