@@ -5,3 +5,5 @@ pub mod Indexing
 pub mod Scoring
 pub mod Lookups
 pub mod Keeping
+pub mod Passing
+pub mod Refusals
