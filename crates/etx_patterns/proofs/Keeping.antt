@@ -6,14 +6,14 @@ use Rattle.etx_patterns.specs.declared.step.Mark.{Mark}
 use Rattle.etx_patterns.specs.declared.step.Step.{Step}
 use Rattle.etx_patterns.specs.declared.tables.Pattern.{Pattern}
 use Rattle.etx_patterns.specs.declared.tables.Exception.{Exception}
-use Rattle.etx_patterns.specs.Shapes.{has_digit, shape, path_in, letter_count}
-use Rattle.etx_patterns.specs.Tables.{pattern_path, exception_path, exception_of, exception_at, is_known, all_letters, new_pattern}
+use Rattle.etx_patterns.specs.Shapes.{has_digit, shape, path_in, letter_count, word_marks}
+use Rattle.etx_patterns.specs.Tables.{pattern_path, exception_path, exception_of, exception_at, is_known, all_letters, new_pattern, new_exception, IsException, put}
 use Rattle.etx_patterns.specs.Tree.{Tree, size, path_at, entry_at, IsOnly, Grows}
 use Rattle.etx_patterns.specs.Kept.{key_at, counts_at, Indexes, PatternsIndexed, ExceptionsIndexed, digit_counts, always, IsKept}
 use Rattle.etx_patterns.specs.Scores.{pattern_at}
-use Rattle.etx_patterns.proofs.Indexing.{Indexes-grown, Indexes-added, noted}
-use Rattle.etx_patterns.proofs.Scoring.{pattern_key, pattern_counts}
-use Rattle.etx_patterns.proofs.Lookups.{none_known, no_such_path, exception_key}
+use Rattle.etx_patterns.proofs.Indexing.{Indexes-grown, Indexes-added, noted, word_marks-injective}
+use Rattle.etx_patterns.proofs.Scoring.{pattern_key, pattern_counts, first_same, rest_same}
+use Rattle.etx_patterns.proofs.Lookups.{none_known, no_such_path, exception_key, put-found}
 
 pub kept_patterns_grown : (tree new etree : Tree) (patterns : List Pattern) (exceptions : List Exception) (letters : ℕ) → IsKept tree etree patterns exceptions letters → Grows tree new → IsKept new etree patterns exceptions letters
 kept_patterns_grown tree new etree patterns exceptions letters k g =
@@ -120,3 +120,17 @@ kept_exception_replaced tree etree patterns exceptions letters i exception k sam
       letters_few = k.letters_few;
       exceptions_few = omega arith
     }
+
+-- New places in an exception's stead.
+pub put_replaces : (exceptions : List Exception) (path : List Mark) (entry language : ℕ) (word places listed : List ℕ) (old : Exception) → IsException exceptions path entry → path ≡ path_in language (word_marks word)
+    → old ≡ exception_at exceptions entry → listed ≡ places
+    → set exceptions entry (record { language = old.language; word = old.word; places = listed }) ≡ put exceptions (new_exception language word places)
+put_replaces exceptions path entry language word places listed old found path_is old_is listed_is =
+    let whole : path_in old.language (word_marks old.word) ≡ path_in language (word_marks word) = ap exception_path old_is ∙ found.path_is ∙ path_is in
+    let same_language : old.language ≡ language = first_same _ _ _ _ whole in
+    let same_word : old.word ≡ word = word_marks-injective old.word word (rest_same _ _ _ _ whole) in
+    let new : new_exception old.language old.word listed ≡ new_exception language word places = cc in
+    ap (set exceptions entry) new
+    ∙ sym
+      (put-found exceptions (new_exception language word places) entry found.within (found.path_is ∙ path_is)
+        (λ other low e. found.only other low (e ∙ sym path_is)))

@@ -114,10 +114,10 @@ pattern_key patterns i low = get_or-map pattern_path patterns i _ [] low
 pub pattern_counts : (patterns : List Pattern) (i : ℕ) → i < length patterns → counts_at (map digit_counts patterns) i ≡ has_digit (pattern_at patterns i).steps
 pattern_counts patterns i low = get_or-map digit_counts patterns i _ false low
 
-first_same : (a b : ℕ) (xs ys : List Mark) → path_in a xs ≡ path_in b ys → a ≡ b
+pub first_same : (a b : ℕ) (xs ys : List Mark) → path_in a xs ≡ path_in b ys → a ≡ b
 first_same a b xs ys e = cc
 
-rest_same : (a b : ℕ) (xs ys : List Mark) → path_in a xs ≡ path_in b ys → xs ≡ ys
+pub rest_same : (a b : ℕ) (xs ys : List Mark) → path_in a xs ≡ path_in b ys → xs ≡ ys
 rest_same a b xs ys e = cc
 
 same_path : (a b : ℕ) (xs ys : List Mark) → a ≡ b → xs ≡ ys → path_in a xs ≡ path_in b ys

@@ -128,9 +128,10 @@ impl Patterns {
         if self.exceptions.len() >= MOST_EXCEPTIONS {
             return Err(PatternRefused::Full);
         }
+        let letters = Bytes::from_slice(alloc, word)?;
         let exception = Exception {
             language,
-            word: Bytes::from_slice(alloc, word)?,
+            word: letters,
             places: listed,
         };
         self.put_exception(exception, path.as_slice())?;
