@@ -1,5 +1,5 @@
 -- Trees that index lists of keys.
-use Rattle.std.proofs.Common.{◌≡◌, ◌≢◌, ℕ, zero, suc, ◌+◌, ◌<◌, ◌≤◌, Bool, true, false, ◌&&◌, eqb, List, [], ◌∷◌, ◌++◌, Option, None, Some, ◌⊎◌, inl, inr, refl, ap, sym, ◌∙◌, subst, length, get_or, set, map, arith}
+use Rattle.std.proofs.Common.{◌≡◌, ℕ, ◌<◌, Bool, true, false, ◌&&◌, eqb, List, [], ◌∷◌, ◌++◌, None, Some, inl, inr, refl, ap, sym, ◌∙◌, subst, length, set, arith}
 use Rattle.std.proofs.lemmas.Bool.{cases_lt, cases_eq, cases_Bool}
 use Rattle.std.proofs.lemmas.Bool.Decides.{nat_tests}
 use Rattle.std.proofs.lemmas.List.{length_push, get_or_push, get_or_append_left, get_or-set_other, length-set}
@@ -56,8 +56,8 @@ same_marks-complete xs ys e = subst (λ (zs : List Mark). same_marks xs zs ≡ t
 pub not_same_marks : (xs ys : List Mark) → (xs ≡ ys → ⊥) → same_marks xs ys ≡ false
 not_same_marks xs ys apart =
     elim (cases_Bool (same_marks xs ys)) [
-      inl same ↦ absurd (apart (same_marks-sound xs ys same))
-    | inr other ↦ other
+      | inl same ↦ absurd (apart (same_marks-sound xs ys same))
+      | inr other ↦ other
     ]
 
 -- A tree that has grown indexes the same keys.
@@ -67,21 +67,21 @@ Indexes-grown tree new keys counts g t =
     record {
       sizes = g.sizes;
       entry_key = λ node i low e.
-        elim (cases_lt node (size tree)) [
-          inl before ↦
-            (let old : entry_at tree node ≡ Some i = sym (g.entries_kept node before) ∙ e in
-             let found = t.entry_key node i before old in
-             (found.0, found.1 ∙ sym (g.paths_kept node before)))
-        | inr beyond ↦ (let none = g.none_noted node beyond in absurd (cc))
-        ];
+          elim (cases_lt node (size tree)) [
+            | inl before ↦
+                (let old : entry_at tree node ≡ Some i = sym (g.entries_kept node before) ∙ e in
+                let found = t.entry_key node i before old in
+                (found.0, found.1 ∙ sym (g.paths_kept node before)))
+            | inr beyond ↦ (let none = g.none_noted node beyond in absurd (cc))
+          ];
       key_entry = λ node i low i_low e counted.
-        elim (cases_lt node (size tree)) [
-          inl before ↦ g.entries_kept node before ∙ t.key_entry node i before i_low (e ∙ g.paths_kept node before) counted
-        | inr beyond ↦
-            absurd (t.key_path i i_low
-              (λ other other_low there. g.apart node other beyond low other_low (sym e ∙ sym there ∙ sym (g.paths_kept other other_low))))
-        ];
-      key_path = λ i i_low none. t.key_path i i_low (λ node low e. none node (omega arith) (g.paths_kept node low ∙ e))
+          elim (cases_lt node (size tree)) [
+            | inl before ↦ g.entries_kept node before ∙ t.key_entry node i before i_low (e ∙ g.paths_kept node before) counted
+            | inr beyond ↦
+                absurd (t.key_path i i_low
+                (λ other other_low there. g.apart node other beyond low other_low (sym e ∙ sym there ∙ sym (g.paths_kept other other_low))))
+          ];
+      key_path = λ i i_low none. t.key_path i i_low (λ node low e. none node (omega arith) (g.paths_kept node low ∙ e));
     }
 
 abbrev pub noted : Tree → ℕ → ℕ → Tree
@@ -105,35 +105,35 @@ Indexes-added tree keys counts path node counted only lengths unknown t =
     record {
       sizes = length-set tree.entries node (Some last) ∙ sizes;
       entry_key = λ n i low e.
-        elim (cases_eq n node) [
-          inl here ↦
-            (let there = entry_here n here in
-             let i_is : i ≡ last = some_same i last (sym e ∙ there) in
-             (omega arith, key_new i i_is ∙ sym only.path_is ∙ ap (path_at tree) (sym here)))
-        | inr other ↦
-            (let found = t.entry_key n i low (sym (entry_other n other) ∙ e) in
-             let i_low : i < last = found.0 in
-             (omega arith, key_old i i_low ∙ found.1))
-        ];
+          elim (cases_eq n node) [
+            | inl here ↦
+                (let there = entry_here n here in
+                let i_is : i ≡ last = some_same i last (sym e ∙ there) in
+                (omega arith, key_new i i_is ∙ sym only.path_is ∙ ap (path_at tree) (sym here)))
+            | inr other ↦
+                (let found = t.entry_key n i low (sym (entry_other n other) ∙ e) in
+                let i_low : i < last = found.0 in
+                (omega arith, key_old i i_low ∙ found.1))
+          ];
       key_entry = λ n i low i_low e counts_i.
-        elim (cases_lt i last) [
-          inl old ↦
-            (let key_is : key_at keys i ≡ path_at tree n = sym (key_old i old) ∙ e in
-             let counts_is : counts_at counts i ≡ true = sym (counts_old i old) ∙ counts_i in
-             elim (cases_eq n node) [
-               inl here ↦ absurd (unknown i old (key_is ∙ ap (path_at tree) here ∙ only.path_is) counts_is)
-             | inr other ↦ entry_other n other ∙ t.key_entry n i low old key_is counts_is
-             ])
-        | inr new ↦
-            (let i_is : i ≡ last = omega arith in
-             let here : n ≡ node = only.only n low (sym e ∙ key_new i i_is) in
-             entry_here n here ∙ ap Some (sym i_is))
-        ];
+          elim (cases_lt i last) [
+            | inl old ↦
+                (let key_is : key_at keys i ≡ path_at tree n = sym (key_old i old) ∙ e in
+                let counts_is : counts_at counts i ≡ true = sym (counts_old i old) ∙ counts_i in
+                elim (cases_eq n node) [
+                  | inl here ↦ absurd (unknown i old (key_is ∙ ap (path_at tree) here ∙ only.path_is) counts_is)
+                  | inr other ↦ entry_other n other ∙ t.key_entry n i low old key_is counts_is
+                ])
+            | inr new ↦
+                (let i_is : i ≡ last = omega arith in
+                let here : n ≡ node = only.only n low (sym e ∙ key_new i i_is) in
+                entry_here n here ∙ ap Some (sym i_is))
+          ];
       key_path = λ i i_low none.
-        elim (cases_lt i last) [
-          inl old ↦ t.key_path i old (λ n low e. none n low (e ∙ sym (key_old i old)))
-        | inr new ↦ none node within (only.path_is ∙ sym (key_new i (omega arith)))
-        ]
+          elim (cases_lt i last) [
+            | inl old ↦ t.key_path i old (λ n low e. none n low (e ∙ sym (key_old i old)))
+            | inr new ↦ none node within (only.path_is ∙ sym (key_new i (omega arith)))
+          ];
     }
   where
     some_same : (i j : ℕ) → Some i ≡ Some j → i ≡ j

@@ -1,16 +1,15 @@
 -- The tries keep standing for the tables.
-use Rattle.std.proofs.Common.{◌≡◌, ◌≢◌, ℕ, zero, suc, ◌+◌, ◌<◌, ◌≤◌, Bool, true, false, List, [], ◌∷◌, ◌++◌, Option, None, Some, refl, ap, sym, ◌∙◌, subst, length, get_or, set, map, arith}
-use Rattle.std.proofs.lemmas.List.{get_or-map, length-map, map_push, length_push, length-set}
+use Rattle.std.proofs.Common.{◌≡◌, ℕ, ◌+◌, ◌<◌, ◌≤◌, Bool, true, false, List, [], ◌∷◌, ◌++◌, None, refl, ap, sym, ◌∙◌, subst, length, set, map, arith}
+use Rattle.std.proofs.lemmas.List.{length-map, map_push, length_push, length-set}
 use Rattle.std.proofs.Math.Seq.{map-set_same}
 use Rattle.etx_patterns.specs.declared.step.Mark.{Mark}
 use Rattle.etx_patterns.specs.declared.step.Step.{Step}
 use Rattle.etx_patterns.specs.declared.tables.Pattern.{Pattern}
 use Rattle.etx_patterns.specs.declared.tables.Exception.{Exception}
-use Rattle.etx_patterns.specs.Shapes.{has_digit, shape, path_in, letter_count, word_marks}
+use Rattle.etx_patterns.specs.Shapes.{shape, path_in, letter_count, word_marks}
 use Rattle.etx_patterns.specs.Tables.{pattern_path, exception_path, exception_of, exception_at, is_known, all_letters, new_pattern, new_exception, IsException, put}
-use Rattle.etx_patterns.specs.Tree.{Tree, size, path_at, entry_at, IsOnly, Grows}
-use Rattle.etx_patterns.specs.Kept.{key_at, counts_at, Indexes, PatternsIndexed, ExceptionsIndexed, digit_counts, always, IsKept}
-use Rattle.etx_patterns.specs.Scores.{pattern_at}
+use Rattle.etx_patterns.specs.Tree.{Tree, IsOnly, Grows}
+use Rattle.etx_patterns.specs.Kept.{Indexes, PatternsIndexed, ExceptionsIndexed, digit_counts, always, IsKept}
 use Rattle.etx_patterns.proofs.Indexing.{Indexes-grown, Indexes-added, noted, word_marks-injective}
 use Rattle.etx_patterns.proofs.Scoring.{pattern_key, pattern_counts, first_same, rest_same}
 use Rattle.etx_patterns.proofs.Lookups.{none_known, no_such_path, exception_key, put-found}
@@ -22,7 +21,7 @@ kept_patterns_grown tree new etree patterns exceptions letters k g =
       exceptions_indexed = k.exceptions_indexed;
       letters_are = k.letters_are;
       letters_few = k.letters_few;
-      exceptions_few = k.exceptions_few
+      exceptions_few = k.exceptions_few;
     }
 
 pub kept_exceptions_grown : (tree etree new : Tree) (patterns : List Pattern) (exceptions : List Exception) (letters : ℕ) → IsKept tree etree patterns exceptions letters → Grows etree new → IsKept tree new patterns exceptions letters
@@ -32,7 +31,7 @@ kept_exceptions_grown tree etree new patterns exceptions letters k g =
       exceptions_indexed = Indexes-grown etree new _ _ g k.exceptions_indexed;
       letters_are = k.letters_are;
       letters_few = k.letters_few;
-      exceptions_few = k.exceptions_few
+      exceptions_few = k.exceptions_few;
     }
 
 all_letters-push : (patterns : List Pattern) (pattern : Pattern) → all_letters (patterns ++ pattern ∷ []) ≡ all_letters patterns + letter_count pattern.steps
@@ -49,13 +48,13 @@ patterns_added new patterns pattern path at t only path_is none =
     let lengths = length-map patterns pattern_path in
     let counts_length : length (map digit_counts patterns) ≡ length (map pattern_path patterns) = length-map patterns digit_counts ∙ sym lengths in
     let added = Indexes-added new (map pattern_path patterns) (map digit_counts patterns) path at (digit_counts pattern) only counts_length
-          (λ i low key counted.
-            let i_low : i < length patterns = omega arith in
-            none_known patterns path none i i_low (sym (pattern_key patterns i i_low) ∙ key) (sym (pattern_counts patterns i i_low) ∙ counted))
-          t
+    (λ i low key counted.
+    let i_low : i < length patterns = omega arith in
+    none_known patterns path none i i_low (sym (pattern_key patterns i i_low) ∙ key) (sym (pattern_counts patterns i i_low) ∙ counted))
+    t
     in
     let keys : map pattern_path patterns ++ path ∷ [] ≡ map pattern_path (patterns ++ pattern ∷ []) =
-          ap (λ (it : List Mark). map pattern_path patterns ++ it ∷ []) path_is ∙ sym (map_push pattern_path patterns pattern) in
+    ap (λ (it : List Mark). map pattern_path patterns ++ it ∷ []) path_is ∙ sym (map_push pattern_path patterns pattern) in
     let counts : map digit_counts patterns ++ digit_counts pattern ∷ [] ≡ map digit_counts (patterns ++ pattern ∷ []) = sym (map_push digit_counts patterns pattern) in
     indexes_along _ _ _ _ _ _ (ap (noted new at) lengths) keys counts added
 
@@ -74,7 +73,7 @@ kept_pattern_added tree new newer etree patterns patterns' exceptions letters le
       exceptions_indexed = k.exceptions_indexed;
       letters_are = omega arith;
       letters_few = omega arith;
-      exceptions_few = k.exceptions_few
+      exceptions_few = k.exceptions_few;
     }
 
 pub kept_exception_added : (tree etree new newer : Tree) (patterns : List Pattern) (exceptions exceptions' : List Exception) (letters at : ℕ) (exception : Exception) (path : List Mark)
@@ -86,13 +85,13 @@ kept_exception_added tree etree new newer patterns exceptions exceptions' letter
     let lengths = length-map exceptions exception_path in
     let counts_length : length (map always exceptions) ≡ length (map exception_path exceptions) = length-map exceptions always ∙ sym lengths in
     let added = Indexes-added new (map exception_path exceptions) (map always exceptions) path at true only counts_length
-          (λ i low key counted.
-            let i_low : i < length exceptions = omega arith in
-            no_such_path exceptions path none i i_low (sym (exception_key exceptions i i_low) ∙ key))
-          grown
+    (λ i low key counted.
+    let i_low : i < length exceptions = omega arith in
+    no_such_path exceptions path none i i_low (sym (exception_key exceptions i i_low) ∙ key))
+    grown
     in
     let keys : map exception_path exceptions ++ path ∷ [] ≡ map exception_path (exceptions ++ exception ∷ []) =
-          ap (λ (it : List Mark). map exception_path exceptions ++ it ∷ []) path_is ∙ sym (map_push exception_path exceptions exception) in
+    ap (λ (it : List Mark). map exception_path exceptions ++ it ∷ []) path_is ∙ sym (map_push exception_path exceptions exception) in
     let counts : map always exceptions ++ true ∷ [] ≡ map always (exceptions ++ exception ∷ []) = sym (map_push always exceptions exception) in
     let indexed : ExceptionsIndexed (noted new at (length exceptions)) (exceptions ++ exception ∷ []) = indexes_along _ _ _ _ _ _ (ap (noted new at) lengths) keys counts added in
     let one = length_push exceptions exception in
@@ -102,7 +101,7 @@ kept_exception_added tree etree new newer patterns exceptions exceptions' letter
       exceptions_indexed = rw (en, ep) indexed;
       letters_are = k.letters_are;
       letters_few = k.letters_few;
-      exceptions_few = omega arith
+      exceptions_few = omega arith;
     }
 
 pub kept_exception_replaced : (tree etree : Tree) (patterns : List Pattern) (exceptions : List Exception) (letters i : ℕ) (exception : Exception)
@@ -118,7 +117,7 @@ kept_exception_replaced tree etree patterns exceptions letters i exception k sam
       exceptions_indexed = indexes_along _ _ _ _ _ _ refl (sym keys) (sym counts) k.exceptions_indexed;
       letters_are = k.letters_are;
       letters_few = k.letters_few;
-      exceptions_few = omega arith
+      exceptions_few = omega arith;
     }
 
 -- New places in an exception's stead.
@@ -132,5 +131,5 @@ put_replaces exceptions path entry language word places listed old found path_is
     let new : new_exception old.language old.word listed ≡ new_exception language word places = cc in
     ap (set exceptions entry) new
     ∙ sym
-      (put-found exceptions (new_exception language word places) entry found.within (found.path_is ∙ path_is)
-        (λ other low e. found.only other low (e ∙ sym path_is)))
+    (put-found exceptions (new_exception language word places) entry found.within (found.path_is ∙ path_is)
+    (λ other low e. found.only other low (e ∙ sym path_is)))

@@ -1,14 +1,14 @@
 -- What a look-up in the indexes says of the lists.
-use Rattle.std.proofs.Common.{◌≡◌, ◌≢◌, ℕ, zero, suc, ◌+◌, ◌<◌, ◌≤◌, Bool, true, false, ◌&&◌, ◌||◌, List, [], ◌∷◌, ◌++◌, Option, None, Some, MatchOption, ◌⊎◌, inl, inr, refl, ap, sym, ◌∙◌, subst, length, get_or, set, map, arith}
-use Rattle.std.proofs.lemmas.Bool.{cases_lt, cases_eq, cases_Bool}
+use Rattle.std.proofs.Common.{◌≡◌, ◌≢◌, ℕ, zero, suc, ◌<◌, Bool, true, false, ◌&&◌, ◌||◌, List, [], ◌∷◌, ◌++◌, Option, None, Some, MatchOption, inl, inr, refl, ap, sym, ◌∙◌, length, set, map, arith}
+use Rattle.std.proofs.lemmas.Bool.{cases_Bool}
 use Rattle.std.proofs.lemmas.List.{get_or-map, length-map}
 use Rattle.etx_patterns.specs.declared.step.Mark.{Mark}
 use Rattle.etx_patterns.specs.declared.tables.Pattern.{Pattern}
 use Rattle.etx_patterns.specs.declared.tables.Exception.{Exception}
-use Rattle.etx_patterns.specs.Shapes.{has_digit, same_marks, path_in, word_marks}
+use Rattle.etx_patterns.specs.Shapes.{has_digit, same_marks}
 use Rattle.etx_patterns.specs.Tables.{pattern_path, exception_path, exception_of, exception_at, IsException, is_known, put}
 use Rattle.etx_patterns.specs.Tree.{Tree, size, path_at, entry_at, IsOnly}
-use Rattle.etx_patterns.specs.Kept.{key_at, counts_at, Indexes, PatternsIndexed, ExceptionsIndexed, digit_counts, always}
+use Rattle.etx_patterns.specs.Kept.{key_at, counts_at, PatternsIndexed, ExceptionsIndexed, always}
 use Rattle.etx_patterns.specs.Scores.{pattern_at}
 use Rattle.etx_patterns.proofs.Indexing.{same_marks-sound, same_marks-complete, not_same_marks}
 use Rattle.etx_patterns.proofs.Scoring.{pattern_key, pattern_counts}
@@ -22,12 +22,12 @@ unknown [] path none = refl
 unknown (pattern ∷ patterns) path none =
     let rest = unknown patterns path (λ i low e d. none (suc i) (omega arith) e d) in
     elim (cases_Bool (same_marks (pattern_path pattern) path)) [
-      inl same ↦
-        (elim (cases_Bool (has_digit pattern.steps)) [
-          inl digit ↦ absurd (none 0 (omega arith) (same_marks-sound (pattern_path pattern) path same) digit)
-        | inr no_digit ↦ rw (same, no_digit) rest
-        ])
-    | inr other ↦ rw other rest
+      | inl same ↦
+          (elim (cases_Bool (has_digit pattern.steps)) [
+            | inl digit ↦ absurd (none 0 (omega arith) (same_marks-sound (pattern_path pattern) path same) digit)
+            | inr no_digit ↦ rw (same, no_digit) rest
+          ])
+      | inr other ↦ rw other rest
     ]
 
 pub known : (patterns : List Pattern) (path : List Mark) (i : ℕ) → i < length patterns → pattern_path (pattern_at patterns i) ≡ path → has_digit (pattern_at patterns i).steps ≡ true → is_known patterns path ≡ true
@@ -57,9 +57,9 @@ unknown_nowhere tree patterns path t none =
 pub unknown_here : (tree : Tree) (patterns : List Pattern) (path : List Mark) (node : ℕ) → PatternsIndexed tree patterns → IsOnly tree path node → entry_at tree node ≡ None → is_known patterns path ≡ false
 unknown_here tree patterns path node t only none =
     unknown patterns path
-      (λ i low e d.
-        let entry = t.key_entry node i only.within (omega (arith, patterns_length patterns)) (pattern_key patterns i low ∙ e ∙ sym only.path_is) (pattern_counts patterns i low ∙ d) in
-        absurd (cc))
+    (λ i low e d.
+    let entry = t.key_entry node i only.within (omega (arith, patterns_length patterns)) (pattern_key patterns i low ∙ e ∙ sym only.path_is) (pattern_counts patterns i low ∙ d) in
+    absurd (cc))
 
 pub entry_pattern : (tree : Tree) (patterns : List Pattern) (node i : ℕ) → PatternsIndexed tree patterns → node < size tree → entry_at tree node ≡ Some i
     → (i < length patterns) × (pattern_path (pattern_at patterns i) ≡ path_at tree node)
@@ -73,15 +73,15 @@ pub known_here : (tree : Tree) (patterns : List Pattern) (path : List Mark) (nod
 known_here tree patterns path node i t only e =
     let found = entry_pattern tree patterns node i t only.within e in
     elim (cases_Bool (has_digit (pattern_at patterns i).steps)) [
-      inl digit ↦ digit ∙ sym (known patterns path i found.0 (found.1 ∙ only.path_is) digit)
-    | inr none ↦
-        none ∙ sym
+      | inl digit ↦ digit ∙ sym (known patterns path i found.0 (found.1 ∙ only.path_is) digit)
+      | inr none ↦
+          none ∙ sym
           (unknown patterns path
-            (λ j low p d.
-              let entry = t.key_entry node j only.within (omega (arith, patterns_length patterns)) (pattern_key patterns j low ∙ p ∙ sym only.path_is) (pattern_counts patterns j low ∙ d) in
-              let same : j ≡ i = some_same j i (sym entry ∙ e) in
-              let there : has_digit (pattern_at patterns i).steps ≡ true = ap (λ (k : ℕ). has_digit (pattern_at patterns k).steps) (sym same) ∙ d in
-              absurd (cc)))
+          (λ j low p d.
+          let entry = t.key_entry node j only.within (omega (arith, patterns_length patterns)) (pattern_key patterns j low ∙ p ∙ sym only.path_is) (pattern_counts patterns j low ∙ d) in
+          let same : j ≡ i = some_same j i (sym entry ∙ e) in
+          let there : has_digit (pattern_at patterns i).steps ≡ true = ap (λ (k : ℕ). has_digit (pattern_at patterns k).steps) (sym same) ∙ d in
+          absurd (cc)))
     ]
   where
     some_same : (a b : ℕ) → Some a ≡ Some b → a ≡ b
@@ -114,8 +114,8 @@ no_such_path (exception ∷ exceptions) path none zero low e =
     some_is_not_none places e = cc
 no_such_path (exception ∷ exceptions) path none (suc i) low e =
     elim (cases_Bool (same_marks (exception_path exception) path)) [
-      inl same ↦ some_is_not_none exception.places (rw same at none)
-    | inr other ↦ no_such_path exceptions path (rw other at none) i (omega arith) e
+      | inl same ↦ some_is_not_none exception.places (rw same at none)
+      | inr other ↦ no_such_path exceptions path (rw other at none) i (omega arith) e
     ]
   where
     some_is_not_none : (places : List ℕ) → Some places ≡ None → ⊥
@@ -136,6 +136,7 @@ only_exception (exception ∷ exceptions) path (suc i) low e only =
   where
     zero_not_suc : (i : ℕ) → 0 ≡ suc i → ⊥
     zero_not_suc i e = omega arith
+
     suc_same : (a b : ℕ) → suc a ≡ suc b → a ≡ b
     suc_same a b e = omega arith
 
@@ -151,6 +152,7 @@ put-found (exception ∷ exceptions) new (suc i) low e only =
   where
     zero_not_suc : (i : ℕ) → 0 ≡ suc i → ⊥
     zero_not_suc i e = omega arith
+
     suc_same : (a b : ℕ) → suc a ≡ suc b → a ≡ b
     suc_same a b e = omega arith
 
@@ -158,8 +160,8 @@ pub put-new : (exceptions : List Exception) (new : Exception) → exception_of e
 put-new [] new none = refl
 put-new (exception ∷ exceptions) new none =
     elim (cases_Bool (same_marks (exception_path exception) (exception_path new))) [
-      inl same ↦ absurd (some_is_not_none exception.places (rw same at none))
-    | inr other ↦ rw other (ap (λ (it : List Exception). exception ∷ it) (put-new exceptions new (rw other at none)))
+      | inl same ↦ absurd (some_is_not_none exception.places (rw same at none))
+      | inr other ↦ rw other (ap (λ (it : List Exception). exception ∷ it) (put-new exceptions new (rw other at none)))
     ]
   where
     some_is_not_none : (places : List ℕ) → Some places ≡ None → ⊥
@@ -168,15 +170,15 @@ put-new (exception ∷ exceptions) new none =
 pub no_exception_nowhere : (tree : Tree) (exceptions : List Exception) (path : List Mark) → ExceptionsIndexed tree exceptions → ((node : ℕ) → node < size tree → path_at tree node ≢ path) → exception_of exceptions path ≡ None
 no_exception_nowhere tree exceptions path t none =
     no_exception exceptions path
-      (λ i low e. t.key_path i (omega (arith, exceptions_length exceptions)) (λ node node_low there. none node node_low (there ∙ exception_key exceptions i low ∙ e)))
+    (λ i low e. t.key_path i (omega (arith, exceptions_length exceptions)) (λ node node_low there. none node node_low (there ∙ exception_key exceptions i low ∙ e)))
 
 pub exception_here : (tree : Tree) (exceptions : List Exception) (path : List Mark) (node : ℕ) (entry : Option ℕ) → ExceptionsIndexed tree exceptions → IsOnly tree path node → entry_at tree node ≡ entry
     → MatchOption entry (exception_of exceptions path ≡ None) (λ i. IsException exceptions path i)
 exception_here tree exceptions path node None t only e =
     no_exception exceptions path
-      (λ i low p.
-        let entry = t.key_entry node i only.within (omega (arith, exceptions_length exceptions)) (exception_key exceptions i low ∙ p ∙ sym only.path_is) (exception_counts exceptions i low) in
-        absurd (none_not_some i (sym e ∙ entry)))
+    (λ i low p.
+    let entry = t.key_entry node i only.within (omega (arith, exceptions_length exceptions)) (exception_key exceptions i low ∙ p ∙ sym only.path_is) (exception_counts exceptions i low) in
+    absurd (none_not_some i (sym e ∙ entry)))
   where
     none_not_some : (i : ℕ) → None ≡ Some i → ⊥
     none_not_some i e = cc
@@ -185,8 +187,8 @@ exception_here tree exceptions path node (Some i) t only e =
     let i_low : i < length exceptions = omega (arith, exceptions_length exceptions) in
     let path_is : exception_path (exception_at exceptions i) ≡ path = sym (exception_key exceptions i i_low) ∙ found.1 ∙ only.path_is in
     let alone : OnlyException exceptions path i =
-          λ j low p. some_same j i
-            (sym (t.key_entry node j only.within (omega (arith, exceptions_length exceptions)) (exception_key exceptions j low ∙ p ∙ sym only.path_is) (exception_counts exceptions j low)) ∙ e)
+    λ j low p. some_same j i
+    (sym (t.key_entry node j only.within (omega (arith, exceptions_length exceptions)) (exception_key exceptions j low ∙ p ∙ sym only.path_is) (exception_counts exceptions j low)) ∙ e)
     in
     record { within = i_low; path_is = path_is; first = only_exception exceptions path i i_low path_is alone; only = alone }
   where

@@ -40,8 +40,8 @@ same_passing f g from (suc count) agree =
     let here : f from ≡ g from = agree from (omega arith) (omega arith) in
     let rest = same_passing f g (from + 1) count (λ k low high. agree k (omega arith) (omega arith)) in
     elim (cases_Bool (f from)) [
-      inl passes ↦ let other : g from ≡ true = sym here ∙ passes in rw (passes, other, rest) refl
-    | inr fails ↦ let other : g from ≡ false = sym here ∙ fails in rw (fails, other) rest
+      | inl passes ↦ let other : g from ≡ true = sym here ∙ passes in rw (passes, other, rest) refl
+      | inr fails ↦ let other : g from ≡ false = sym here ∙ fails in rw (fails, other) rest
     ]
 
 -- The places by an exception, and by the scores.
@@ -55,7 +55,7 @@ pub places_by_scores : (tables : Tables) (language : ℕ) (word scores : List �
     → places_that (λ place. is_odd (get_or scores (place + 1) 0)) (length word) ≡ places_of tables language word
 places_by_scores tables language word scores e room all =
     same_passing (λ place. is_odd (get_or scores (place + 1) 0)) (λ place. is_odd (greatest_digit tables.patterns language (framed word) (place + 1))) 1 (length word - 1)
-      (λ k low high. ap is_odd (all (k + 1) (omega arith)))
+    (λ k low high. ap is_odd (all (k + 1) (omega arith)))
     ∙ ap (λ (it : Option (List ℕ)). places_that (λ place. allowed_by it (greatest_digit tables.patterns language (framed word) (place + 1)) place) (length word)) (sym e)
 
 pub length-framed : (word : List ℕ) → length (framed word) ≡ length word + 2

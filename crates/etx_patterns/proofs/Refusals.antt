@@ -1,10 +1,9 @@
 -- Which refusal is due.
-use Rattle.std.proofs.Common.{◌≡◌, ℕ, ◌+◌, ◌<◌, ◌≤◌, Bool, true, false, ltb, leb, List, length, Option, None, Some, refl, ap, sym, ◌∙◌, arith}
+use Rattle.std.proofs.Common.{◌≡◌, ℕ, ◌+◌, ◌<◌, ◌≤◌, true, false, ltb, leb, List, length, None, Some, refl, arith}
 use Rattle.std.proofs.lemmas.Bool.Decides.{nat_tests}
-use Rattle.std.specs.Prelude.{◌==◌, is_some}
+use Rattle.std.specs.Prelude.{◌==◌}
 use Rattle.std.specs.List.{list_any}
 use Rattle.etx_patterns.specs.declared.step.Step.{Step}
-use Rattle.etx_patterns.specs.declared.refused.PatternRefused.{PatternRefused}
 use Rattle.etx_patterns.specs.declared.refused.PatternRefused.TheVariants.{NonLetter, Duplicate, Full}
 use Rattle.etx_patterns.specs.Shapes.{shape, has_zero_letter, letter_count, path_in, word_marks}
 use Rattle.etx_patterns.specs.Tables.{Tables, pattern_refusal, exception_refusal, exception_of, is_known, all_letters}

@@ -1,8 +1,8 @@
 -- What the matches at one start give, node by node.
-use Rattle.std.proofs.Common.{◌≡◌, ◌≢◌, ℕ, zero, suc, ◌+◌, ◌-◌, ◌<◌, ◌≤◌, Bool, true, false, cond, ◌&&◌, ◌||◌, eqb, ltb, max, List, [], ◌∷◌, ◌++◌, Option, None, Some, ◌⊎◌, inl, inr, refl, ap, sym, ◌∙◌, subst, length, get_or, take, drop, map, arith, append_assoc}
-use Rattle.std.proofs.lemmas.Bool.{cases_lt, cases_eq, cases_Bool}
+use Rattle.std.proofs.Common.{◌≡◌, ◌≢◌, ℕ, zero, suc, ◌+◌, ◌-◌, ◌<◌, ◌≤◌, Bool, true, false, cond, ◌&&◌, ◌||◌, eqb, ltb, max, List, [], ◌∷◌, ◌++◌, Option, None, Some, ◌⊎◌, inl, inr, refl, ap, sym, ◌∙◌, subst, length, get_or, take, drop, map, arith}
+use Rattle.std.proofs.lemmas.Bool.{cases_lt, cases_Bool}
 use Rattle.std.proofs.lemmas.Bool.Decides.{nat_tests}
-use Rattle.std.proofs.lemmas.List.{get_or-map, take-append-drop, take_more, length-take-le, length-append, length-map, length-drop}
+use Rattle.std.proofs.lemmas.List.{get_or-map, take-append-drop, take_more, length-take-le, length-map, length-drop}
 use Rattle.std.specs.List.{range_with_len}
 use Rattle.etx_patterns.specs.declared.step.Step.{Step}
 use Rattle.etx_patterns.specs.declared.step.Step.TheVariants.{Letter, Digit, Edge}
@@ -12,15 +12,17 @@ use Rattle.etx_patterns.specs.declared.tables.Pattern.{Pattern}
 use Rattle.etx_patterns.specs.Shapes.{shape, has_digit, digit_from, same_marks, path_in}
 use Rattle.etx_patterns.specs.Tables.{pattern_path, matches_at, given_digit, greatest_of, greatest_digit}
 use Rattle.etx_patterns.specs.Tree.{Tree, size, path_at, entry_at}
-use Rattle.etx_patterns.specs.Kept.{key_at, counts_at, Indexes, PatternsIndexed, digit_counts}
+use Rattle.etx_patterns.specs.Kept.{key_at, counts_at, PatternsIndexed, digit_counts}
 use Rattle.etx_patterns.specs.Scores.{Raised, pattern_at, digit_of_entry, entry_digit}
 use Rattle.etx_patterns.proofs.Indexing.{same_marks-sound, same_marks-complete}
 
 neither : (a b : Bool) → (a || b) ≡ false → (a ≡ false) × (b ≡ false)
 neither true b e = cc
 neither false b e = (refl, e)
+
 not_above : (digit : ℕ) → ltb 0 digit ≡ false → digit ≡ 0
 not_above digit e = grind (arith, nat_tests)
+
 given_zero : (b : Bool) (digit : ℕ) → digit ≡ 0 → cond b digit 0 ≡ 0
 given_zero true digit e = e
 given_zero false digit e = refl
@@ -67,6 +69,7 @@ greatest_of-range number n =
 both : (a b : Bool) → (a && b) ≡ true → (a ≡ true) × (b ≡ true)
 both true b e = (refl, e)
 both false b e = cc
+
 test_eq : (a b : ℕ) → eqb a b ≡ true → a ≡ b
 test_eq a b e = grind (arith, nat_tests)
 
@@ -100,11 +103,11 @@ given-other language marks start place pattern e = rw e refl
 -- Either a pattern gives nothing, or it matches.
 pub given_cases : (language : ℕ) (marks : List Mark) (start place : ℕ) (pattern : Pattern)
     → (given_digit language marks start place pattern ≡ 0)
-      ⊎ ((matches_at language marks start pattern ≡ true) × (given_digit language marks start place pattern ≡ digit_from pattern.steps start place))
+    ⊎ ((matches_at language marks start pattern ≡ true) × (given_digit language marks start place pattern ≡ digit_from pattern.steps start place))
 given_cases language marks start place pattern =
     elim (cases_Bool (matches_at language marks start pattern)) [
-      inl yes_it_does ↦ inr (yes_it_does, given-matching language marks start place pattern yes_it_does)
-    | inr other ↦ inl (given-other language marks start place pattern other)
+      | inl yes_it_does ↦ inr (yes_it_does, given-matching language marks start place pattern yes_it_does)
+      | inr other ↦ inl (given-other language marks start place pattern other)
     ]
 
 -- The patterns as keys.
@@ -127,7 +130,6 @@ keys_length : (patterns : List Pattern) → length (map pattern_path patterns) �
 keys_length patterns = length-map patterns pattern_path
 
 module _ (tree : Tree) (patterns : List Pattern) (language : ℕ) (marks : List Mark) (start : ℕ) (t : PatternsIndexed tree patterns) where
-
   -- Of the patterns with what stands at a node, at most the noted one gives a place anything.
   entry_given : (node n place : ℕ) → node < size tree → path_at tree node ≡ path_in language (take n (drop start marks)) → n ≤ length (drop start marks)
       → entry_digit tree patterns node start place ≤ greatest_of (given_digit language marks start place) patterns
@@ -152,21 +154,21 @@ module _ (tree : Tree) (patterns : List Pattern) (language : ℕ) (marks : List 
       → length (shape (pattern_at patterns i).steps) ≡ n → given_digit language marks start place (pattern_at patterns i) ≤ entry_digit tree patterns node start place
   given_entry node n place i low path_is i_low n_is =
       elim (given_cases language marks start place (pattern_at patterns i)) [
-        inl none ↦ omega arith
-      | inr found ↦
-          (let parts = matches-sound language marks start (pattern_at patterns i) found.0 in
-           let shape_is : shape (pattern_at patterns i).steps ≡ take n (drop start marks) = parts.1 ∙ ap (λ k. take k (drop start marks)) n_is in
-           let key : key_at (map pattern_path patterns) i ≡ path_at tree node =
-                 pattern_key patterns i i_low ∙ same_path _ _ _ _ parts.0 shape_is ∙ sym path_is in
-           elim (cases_Bool (has_digit (pattern_at patterns i).steps)) [
-             inl counted ↦
-               (let entry = t.key_entry node i low (omega (arith, keys_length patterns)) key (pattern_counts patterns i i_low ∙ counted) in
-                let here : digit_of_entry patterns (entry_at tree node) start place ≡ digit_from (pattern_at patterns i).steps start place =
-                      ap (λ (it : Option ℕ). digit_of_entry patterns it start place) entry in
-                let given = found.1 in
-                omega arith)
-           | inr none ↦ let zero_digit = digit_from-none (pattern_at patterns i).steps start place none in let given = found.1 in omega arith
-           ])
+        | inl none ↦ omega arith
+        | inr found ↦
+            (let parts = matches-sound language marks start (pattern_at patterns i) found.0 in
+            let shape_is : shape (pattern_at patterns i).steps ≡ take n (drop start marks) = parts.1 ∙ ap (λ k. take k (drop start marks)) n_is in
+            let key : key_at (map pattern_path patterns) i ≡ path_at tree node =
+            pattern_key patterns i i_low ∙ same_path _ _ _ _ parts.0 shape_is ∙ sym path_is in
+            elim (cases_Bool (has_digit (pattern_at patterns i).steps)) [
+              | inl counted ↦
+                  (let entry = t.key_entry node i low (omega (arith, keys_length patterns)) key (pattern_counts patterns i i_low ∙ counted) in
+                  let here : digit_of_entry patterns (entry_at tree node) start place ≡ digit_from (pattern_at patterns i).steps start place =
+                  ap (λ (it : Option ℕ). digit_of_entry patterns it start place) entry in
+                  let given = found.1 in
+                  omega arith)
+              | inr none ↦ let zero_digit = digit_from-none (pattern_at patterns i).steps start place none in let given = found.1 in omega arith
+            ])
       ]
 
 -- The scores so far at one start: risen to what the patterns with fewer marks than `limit` give, and to no more than all give.
@@ -175,7 +177,7 @@ pub record Scored (patterns : List Pattern) (language : ℕ) (marks : List Mark)
   pub lower : (place : ℕ) → place < length old → get_or old place 0 ≤ get_or new place 0
   pub upper : (place : ℕ) → place < length old → get_or new place 0 ≤ max (get_or old place 0) (greatest_of (given_digit language marks start place) patterns)
   pub below : (place i : ℕ) → place < length old → i < length patterns → length (shape (pattern_at patterns i).steps) < limit
-    → given_digit language marks start place (pattern_at patterns i) ≤ get_or new place 0
+      → given_digit language marks start place (pattern_at patterns i) ≤ get_or new place 0
 
 pub Scored-start : (patterns : List Pattern) (language : ℕ) (marks : List Mark) (start : ℕ) (old : List ℕ) → Scored patterns language marks start 0 old old
 Scored-start patterns language marks start old =
@@ -183,7 +185,7 @@ Scored-start patterns language marks start old =
       same_length = refl;
       lower = λ place low. omega arith;
       upper = λ place low. omega arith;
-      below = λ place i low i_low few. absurd (omega arith)
+      below = λ place i low i_low few. absurd (omega arith);
     }
 
 pub Scored-step : (tree : Tree) (patterns : List Pattern) (language : ℕ) (marks : List Mark) (start node n : ℕ) (old new newer : List ℕ) → PatternsIndexed tree patterns
@@ -196,16 +198,16 @@ Scored-step tree patterns language marks start node n old new newer t low path_i
       same_length = same ∙ s.same_length;
       lower = λ place p. (let r = raised place (omega arith) in let l = s.lower place p in omega arith);
       upper = λ place p.
-        (let r = raised place (omega arith) in
-         let u = s.upper place p in
-         let g = entry_given tree patterns language marks start t node n place low path_is within in
-         omega arith);
+          (let r = raised place (omega arith) in
+          let u = s.upper place p in
+          let g = entry_given tree patterns language marks start t node n place low path_is within in
+          omega arith);
       below = λ place i p i_low few.
-        (let r = raised place (omega arith) in
-         elim (cases_lt (length (shape (pattern_at patterns i).steps)) n) [
-           inl fewer ↦ let b = s.below place i p i_low fewer in omega arith
-         | inr last ↦ let g = given_entry tree patterns language marks start t node n place i low path_is i_low (omega arith) in omega arith
-         ])
+          (let r = raised place (omega arith) in
+          elim (cases_lt (length (shape (pattern_at patterns i).steps)) n) [
+            | inl fewer ↦ let b = s.below place i p i_low fewer in omega arith
+            | inr last ↦ let g = given_entry tree patterns language marks start t node n place i low path_is i_low (omega arith) in omega arith
+          ]);
     }
 
 -- Where no pattern with more marks matches, the scores have risen to what all give.
@@ -216,15 +218,15 @@ Scored-end patterns language marks start limit old new none s place p =
     let l = s.lower place p in
     let u = s.upper place p in
     let b = greatest_of-bound (given_digit language marks start place) patterns (record { language = 0; steps = [] }) (get_or new place 0)
-          (λ i i_low.
-            elim (cases_lt (length (shape (pattern_at patterns i).steps)) limit) [
-              inl few ↦ s.below place i p i_low few
-            | inr many ↦
-                (elim (given_cases language marks start place (pattern_at patterns i)) [
-                  inl nothing ↦ omega arith
-                | inr found ↦ absurd (none i i_low many found.0)
-                ])
-            ])
+    (λ i i_low.
+    elim (cases_lt (length (shape (pattern_at patterns i).steps)) limit) [
+      | inl few ↦ s.below place i p i_low few
+      | inr many ↦
+          (elim (given_cases language marks start place (pattern_at patterns i)) [
+            | inl nothing ↦ omega arith
+            | inr found ↦ absurd (none i i_low many found.0)
+          ])
+    ])
     in
     omega arith
 
@@ -263,11 +265,11 @@ none_further tree patterns language marks start node n mark d t path_is within m
     let parts = matches-sound language marks start (pattern_at patterns i) matched in
     let whole = shape (pattern_at patterns i).steps in
     let front : take (n + 1) whole ≡ take n (drop start marks) ++ mark ∷ [] =
-          ap (take (n + 1)) parts.1 ∙ take-take (n + 1) (length whole) (drop start marks) many ∙ take_more (drop start marks) n d within ∙ ap (λ (it : Mark). take n (drop start marks) ++ it ∷ []) (sym mark_is) in
+    ap (take (n + 1)) parts.1 ∙ take-take (n + 1) (length whole) (drop start marks) many ∙ take_more (drop start marks) n d within ∙ ap (λ (it : Mark). take n (drop start marks) ++ it ∷ []) (sym mark_is) in
     let split : whole ≡ (take n (drop start marks) ++ mark ∷ []) ++ drop (n + 1) whole = sym (take-append-drop (n + 1) whole) ∙ ap (λ (it : List Mark). it ++ drop (n + 1) whole) front in
     let key : key_at (map pattern_path patterns) i ≡ (path_at tree node ++ mark ∷ []) ++ drop (n + 1) whole =
-          pattern_key patterns i i_low ∙ same_path _ _ _ _ parts.0 split
-          ∙ ap (λ (it : List Mark). (it ++ mark ∷ []) ++ drop (n + 1) whole) (sym path_is) in
+    pattern_key patterns i i_low ∙ same_path _ _ _ _ parts.0 split
+    ∙ ap (λ (it : List Mark). (it ++ mark ∷ []) ++ drop (n + 1) whole) (sym path_is) in
     t.key_path i (omega (arith, keys_length patterns)) (λ other low e. none other (drop (n + 1) whole) low (e ∙ key))
 
 -- Where the language has no node, none of its patterns matches anywhere.
@@ -277,22 +279,22 @@ pub none_at_all : (tree : Tree) (patterns : List Pattern) (language : ℕ) (mark
 unfolding greatest_digit
 none_at_all tree patterns language marks root t root_is none place =
     let bound = greatest_of-bound (λ start. greatest_of (given_digit language marks start place) patterns) (range_with_len 0 (length marks + 1)) 0 0
-          (λ k k_low. at_start (get_or (range_with_len 0 (length marks + 1)) k 0)) in
+    (λ k k_low. at_start (get_or (range_with_len 0 (length marks + 1)) k 0)) in
     omega arith
   where
     at_start : (start : ℕ) → greatest_of (given_digit language marks start place) patterns ≤ 0
     at_start start =
         greatest_of-bound (given_digit language marks start place) patterns (record { language = 0; steps = [] }) 0
-          (λ i i_low.
-            elim (given_cases language marks start place (pattern_at patterns i)) [
-              inl nothing ↦ omega arith
-            | inr found ↦
-                (let parts = matches-sound language marks start (pattern_at patterns i) found.0 in
-                 let whole = shape (pattern_at patterns i).steps in
-                 let key : key_at (map pattern_path patterns) i ≡ (path_at tree root ++ Language language ∷ []) ++ whole =
-                       pattern_key patterns i i_low ∙ ap (λ (l : ℕ). Language l ∷ whole) parts.0 ∙ ap (λ (it : List Mark). (it ++ Language language ∷ []) ++ whole) (sym root_is) in
-                 absurd (t.key_path i (omega (arith, keys_length patterns)) (λ other low e. none other whole low (e ∙ key))))
-            ])
+        (λ i i_low.
+        elim (given_cases language marks start place (pattern_at patterns i)) [
+          | inl nothing ↦ omega arith
+          | inr found ↦
+              (let parts = matches-sound language marks start (pattern_at patterns i) found.0 in
+              let whole = shape (pattern_at patterns i).steps in
+              let key : key_at (map pattern_path patterns) i ≡ (path_at tree root ++ Language language ∷ []) ++ whole =
+              pattern_key patterns i i_low ∙ ap (λ (l : ℕ). Language l ∷ whole) parts.0 ∙ ap (λ (it : List Mark). (it ++ Language language ∷ []) ++ whole) (sym root_is) in
+              absurd (t.key_path i (omega (arith, keys_length patterns)) (λ other low e. none other whole low (e ∙ key))))
+        ])
 
 -- One mark further on the way.
 pub walked : (tree : Tree) (language node child n : ℕ) (xs : List Mark) (mark d : Mark) → path_at tree node ≡ path_in language (take n xs) → n < length xs → mark ≡ get_or xs n d

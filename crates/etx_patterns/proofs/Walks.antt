@@ -1,8 +1,8 @@
 -- Walking along a path.
-use Rattle.std.proofs.Common.{◌≡◌, ◌≢◌, ℕ, ◌+◌, ◌<◌, ◌≤◌, List, [], ◌∷◌, ◌++◌, Option, None, Some, refl, ap, sym, ◌∙◌, subst, length, get_or, take, drop, arith}
+use Rattle.std.proofs.Common.{◌≡◌, ◌≢◌, ℕ, ◌+◌, ◌<◌, List, [], ◌∷◌, ◌++◌, sym, ◌∙◌, subst, length, get_or, take, drop}
 use Rattle.std.proofs.lemmas.List.{take_more, take-append-drop}
 use Rattle.etx_patterns.specs.declared.step.Mark.{Mark}
-use Rattle.etx_patterns.specs.Tree.{Tree, size, path_at, entry_at, IsOnly, Grows}
+use Rattle.etx_patterns.specs.Tree.{Tree, size, path_at, IsOnly}
 
 -- The child by the next mark has a path that is one mark longer, in the tree as it was or as it has grown.
 pub along : (tree new : Tree) (whole : List Mark) (at child i : ℕ) (mark d : Mark) → IsOnly tree (take i whole) at → i < length whole → mark ≡ get_or whole i d

@@ -1,5 +1,5 @@
 -- How two tries stand for the tables.
-use Rattle.std.specs.Prelude.{ℕ, ◌<◌, ◌≤◌, ◌≡◌, ◌≢◌, Bool, true, false, List, [], Option, Some, None, length, map, slice_index_or}
+use Rattle.std.specs.Prelude.{ℕ, ◌<◌, ◌≤◌, ◌≡◌, ◌≢◌, Bool, true, false, List, [], Some, length, map, slice_index_or}
 use Rattle.etx_patterns.specs.declared.step.Mark.{Mark}
 use Rattle.etx_patterns.specs.declared.tables.Pattern.{Pattern}
 use Rattle.etx_patterns.specs.declared.tables.Exception.{Exception}

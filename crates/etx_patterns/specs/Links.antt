@@ -1,5 +1,5 @@
 -- How the nodes of a trie are linked.
-use Rattle.std.specs.Prelude.{◌≡◌, ◌≢◌, ℕ, ◌<◌, ◌≤◌, List, [], ◌∷◌, ◌++◌, Option, Some, None, length, slice_index_or}
+use Rattle.std.specs.Prelude.{◌≡◌, ℕ, ◌<◌, ◌≤◌, List, [], ◌∷◌, ◌++◌, Option, None, length, slice_index_or}
 use Rattle.etx_patterns.specs.declared.step.Mark.{Mark}
 use Rattle.etx_patterns.specs.declared.step.Mark.TheVariants.{Boundary}
 use Rattle.etx_patterns.specs.declared.trie.Node.{Node}
@@ -42,5 +42,5 @@ pub record IsTrie (nodes : List Node) (heads : List Head) : Type 0 where
   pub same_length : length heads ≡ length nodes
   pub paths_length : length (paths_of nodes) ≡ length nodes
   pub linked :
-    IsLinked (length nodes) (λ node. (node_at nodes node).parent) (λ node. (node_at nodes node).next) (λ node. (head_at heads node).first)
+      IsLinked (length nodes) (λ node. (node_at nodes node).parent) (λ node. (node_at nodes node).next) (λ node. (head_at heads node).first)
       (λ node. (node_at nodes node).mark) (λ node. slice_index_or (paths_of nodes) node [])

@@ -1,5 +1,5 @@
 -- The tables of patterns and exceptions, and the places of a word that they allow.
-use Rattle.std.specs.Prelude.{ℕ, ◌+◌, ◌-◌, ◌%◌, Bool, true, false, ◌&&◌, ◌||◌, List, [], ◌∷◌, ◌++◌, map, max, filter, length, take, drop, Option, Some, None, is_some, if◌then◌else◌, ◌==◌, nat_lt, nat_le, not, Result, Ok, Err, ◌≡◌, ◌<◌, slice_index_or, ⊤}
+use Rattle.std.specs.Prelude.{ℕ, ◌+◌, ◌-◌, Bool, false, ◌&&◌, ◌||◌, List, [], ◌∷◌, ◌++◌, max, filter, length, take, drop, Option, Some, None, is_some, if◌then◌else◌, ◌==◌, nat_lt, nat_le, Result, Ok, Err, ◌≡◌, ◌<◌, slice_index_or, ⊤}
 use Rattle.std.specs.List.{range_with_len, list_any}
 use Rattle.etx_patterns.specs.declared.step.Step.{Step}
 use Rattle.etx_patterns.specs.declared.step.Mark.{Mark}
@@ -80,7 +80,7 @@ unfoldable pub pattern_refusal : Tables → ℕ → List Step → Option Pattern
 pattern_refusal tables language steps =
     if has_zero_letter steps then Some NonLetter
     else (if is_known tables.patterns (path_in language (shape steps)) then Some Duplicate
-          else (if nat_lt 1000000 (all_letters tables.patterns + letter_count steps) then Some Full else None))
+    else (if nat_lt 1000000 (all_letters tables.patterns + letter_count steps) then Some Full else None))
 
 abbrev pub new_pattern : ℕ → List Step → Pattern
 new_pattern language steps = record { language = language; steps = steps }
@@ -93,7 +93,7 @@ unfoldable pub exception_refusal : Tables → ℕ → List ℕ → Option Patter
 exception_refusal tables language word =
     if list_any (λ letter. letter == 0) word then Some NonLetter
     else (if is_some (exception_of tables.exceptions (path_in language (word_marks word))) then None
-          else (if nat_le 10000 (length tables.exceptions) then Some Full else None))
+    else (if nat_le 10000 (length tables.exceptions) then Some Full else None))
 
 -- An exception takes the place of an earlier one for the same word, or is added.
 abbrev pub put : List Exception → Exception → List Exception

@@ -1,5 +1,5 @@
 -- A trie as its nodes: the path that leads to each, and the number that is noted there.
-use Rattle.std.specs.Prelude.{◌≡◌, ◌≢◌, ℕ, ◌<◌, ◌≤◌, List, [], ◌∷◌, Option, Some, None, length, slice_index_or}
+use Rattle.std.specs.Prelude.{◌≡◌, ◌≢◌, ℕ, ◌<◌, ◌≤◌, List, [], ◌∷◌, Option, None, length, slice_index_or}
 use Rattle.etx_patterns.specs.declared.step.Mark.{Mark}
 
 pub record Tree : Type 0 where

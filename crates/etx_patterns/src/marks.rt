@@ -1,9 +1,8 @@
-use crate::step::{Mark, Step};
-
 ghost use Rattle.std.specs.Prelude.{◌≡◌, ◌==◌, length, IfOk};
 ghost use Rattle.std.specs.List.{list_any};
 ghost use Rattle.etx_patterns.specs.Shapes.{shape, has_digit, has_zero_letter, letter_count, word_marks, framed, path_in};
 
+use crate::step::{Mark, Step};
 use std::alloc::{AllocError, Global};
 
 /// The path of a pattern: its language, and then its letters and edges.

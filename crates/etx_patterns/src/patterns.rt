@@ -1,3 +1,6 @@
+ghost use Rattle.std.specs.Prelude.{◌≡◌, ◌≤◌, ℕ, List, length, All, IfOk, OnOk, OnErr};
+ghost use Rattle.etx_patterns.specs.Tables.{empty, with_pattern, with_exception, pattern_refusal, exception_refusal, AnswersBy, places_of};
+
 use crate::marks::{framed, has_digit, has_zero_letter, letter_count, pattern_path, word_path};
 use crate::places::{listed_places, odd_places};
 use crate::refused::PatternRefused;
@@ -6,10 +9,6 @@ use crate::step::{Mark, Step};
 use crate::tables::{Exception, Pattern, copy_exceptions, copy_patterns};
 use crate::trie::Trie;
 use etx_lists::{Bytes, Listed};
-
-ghost use Rattle.std.specs.Prelude.{◌≡◌, ◌≤◌, ℕ, List, length, All, IfOk, OnOk, OnErr};
-ghost use Rattle.etx_patterns.specs.Tables.{empty, with_pattern, with_exception, pattern_refusal, exception_refusal, AnswersBy, places_of};
-
 use std::alloc::{AllocError, Global};
 use std::marker::Model;
 
@@ -154,7 +153,13 @@ impl Patterns {
         }
         let marks = framed(alloc, word)?;
         let mut scores = [0; 66];
-        score_word(&self.pattern_trie, self.patterns.as_slice(), language, marks.as_slice(), &mut scores);
+        score_word(
+            &self.pattern_trie,
+            self.patterns.as_slice(),
+            language,
+            marks.as_slice(),
+            &mut scores,
+        );
         odd_places(alloc, word.len(), &scores)
     }
 }
@@ -234,6 +239,37 @@ mod tests {
         let copy = tables.copy()?;
         assert_eq!(rt; copy.breaks(0, b"afib")?.as_slice(), [2].as_slice());
         assert_eq!(rt; tables.add(0, &F1I), Err(PatternRefused::Duplicate));
+        Ok(())
+    }
+
+    #[test]
+    fn edges_and_digits(rt: HostRuntime) -> Result<(), Fail> {
+        let mut tables = Patterns::new(rt.alloc())?;
+        let anywhere = [Step::Letter(b'a'), Step::Digit(1), Step::Letter(b'b')];
+        let at_the_end = [
+            Step::Letter(b'a'),
+            Step::Digit(2),
+            Step::Letter(b'b'),
+            Step::Edge,
+        ];
+        tables.add(7, &anywhere)?;
+        tables.add(7, &at_the_end)?;
+        assert_eq!(rt; tables.breaks(7, b"abab")?.as_slice(), [1].as_slice());
+        assert_eq!(rt; tables.breaks(8, b"abab")?.len(), 0);
+        Ok(())
+    }
+
+    #[test]
+    fn refused(rt: HostRuntime) -> Result<(), Fail> {
+        let mut tables = Patterns::new(rt.alloc())?;
+        assert_eq!(rt;
+            tables.add(0, &[Step::Letter(0)]),
+            Err(PatternRefused::NonLetter)
+        );
+        assert_eq!(rt;
+            tables.except(0, b"a\0", &[]),
+            Err(PatternRefused::NonLetter)
+        );
         Ok(())
     }
 

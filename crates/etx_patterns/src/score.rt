@@ -1,7 +1,3 @@
-use crate::step::{Mark, Step};
-use crate::tables::Pattern;
-use crate::trie::Trie;
-
 ghost use Rattle.std.specs.Prelude.{◌≡◌, ℕ, ◌+◌, ◌<◌, ◌≤◌, List, [], ◌∷◌, max, length, slice_index, slice_index_or, Option, None, Some};
 ghost use Rattle.etx_patterns.specs.Shapes.{shape, digit_from, path_in};
 ghost use Rattle.etx_patterns.specs.Tables.{given_digit, greatest_of, greatest_digit};
@@ -9,8 +5,18 @@ ghost use Rattle.etx_patterns.specs.Tree.{size, path_at, entry_at};
 ghost use Rattle.etx_patterns.specs.Kept.{PatternsIndexed};
 ghost use Rattle.etx_patterns.specs.Scores.{Raised, entry_digit};
 
+use crate::step::{Mark, Step};
+use crate::tables::Pattern;
+use crate::trie::Trie;
+
 /// Raises the scores, which are 0, to the greatest digit at each place over all patterns of the language that match.
-pub fn score_word(trie: &Trie, patterns: &[Pattern], language: u8, marks: &[Mark], scores: &mut [u8])
+pub fn score_word(
+    trie: &Trie,
+    patterns: &[Pattern],
+    language: u8,
+    marks: &[Mark],
+    scores: &mut [u8],
+)
     requires indexed { PatternsIndexed trie.now patterns.now }
     requires room { length marks.now < length scores.old }
     requires zero { (place : ℕ) → slice_index scores.old place ≡ 0 }
@@ -25,7 +31,15 @@ pub fn score_word(trie: &Trie, patterns: &[Pattern], language: u8, marks: &[Mark
 }
 
 /// Raises the scores by the patterns that match at `start`: walks from the language's node along the marks.
-fn score_from(trie: &Trie, patterns: &[Pattern], language: u8, top: usize, marks: &[Mark], start: usize, scores: &mut [u8])
+fn score_from(
+    trie: &Trie,
+    patterns: &[Pattern],
+    language: u8,
+    top: usize,
+    marks: &[Mark],
+    start: usize,
+    scores: &mut [u8],
+)
     requires indexed { PatternsIndexed trie.now patterns.now }
     requires top_within { top < size trie.now }
     requires top_path { path_at trie.now top ≡ path_in language [] }

@@ -1,8 +1,7 @@
-use crate::step::Step;
-use etx_lists::{Bytes, Listed};
-
 ghost use Rattle.std.specs.Prelude.{◌≡◌, IfOk};
 
+use crate::step::Step;
+use etx_lists::{Bytes, Listed};
 use std::alloc::{AllocError, Global};
 
 /// A pattern of a language.
@@ -59,7 +58,10 @@ pub fn copy_patterns(alloc: Global, patterns: &[Pattern]) -> Result<Vec<Pattern>
 }
 
 /// An equal list of exceptions.
-pub fn copy_exceptions(alloc: Global, exceptions: &[Exception]) -> Result<Vec<Exception>, AllocError>
+pub fn copy_exceptions(
+    alloc: Global,
+    exceptions: &[Exception],
+) -> Result<Vec<Exception>, AllocError>
     ensures { IfOk result (λ it. it.items ≡ exceptions.now) }
 {
     let mut copies = Vec::new(alloc);

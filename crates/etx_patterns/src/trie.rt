@@ -1,9 +1,8 @@
-use crate::step::Mark;
-
 ghost use Rattle.std.specs.Prelude.{◌≡◌, ◌≢◌, ℕ, ◌<◌, List, [], ◌∷◌, ◌++◌, None, Some, length, slice_set, MatchOption, IfOk, OnOk, OnErr};
 ghost use Rattle.etx_patterns.specs.Links.{IsTrie, node_at, head_at};
 ghost use Rattle.etx_patterns.specs.Tree.{Tree, seedling, size, path_at, entry_at, IsOnly, Grows};
 
+use crate::step::Mark;
 use std::alloc::{AllocError, Global};
 use std::marker::Model;
 
@@ -161,7 +160,8 @@ impl Trie {
             parent: at,
             mark,
             next,
-        }) else {
+        })
+        else {
             let _head = self.heads.pop();
             return Err(AllocError);
         };

@@ -1,4 +1,4 @@
-use Rattle.std.proofs.Common.{◌≡◌, ℕ, Bool, true, false, ◌+◌, ◌-◌, get_or, ap, sym, ◌∙◌, filter, arith}
+use Rattle.std.proofs.Common.{◌≡◌, ℕ, Bool, ◌-◌, ap, sym, ◌∙◌, filter, arith}
 use Rattle.std.specs.Prelude.{◌==◌}
 use Rattle.std.specs.List.{range_with_len, list_any}
 use Rattle.etx_patterns.proofs.Passing.{place_passes, place_fails}
@@ -9,10 +9,10 @@ pub loop-place-preserved : goal.loop-place-preserved
 loop-place-preserved c =
     let test : ℕ → Bool = λ place. list_any (λ k. k == place) c.args.listed.now in
     elim c.if-contains.branch [
-      then-contains+in_ok-push w ↦
-        (omega arith, (let more = place_passes test c.loop-place.place c.loop-place.auto.place (sym c.contains.ensures.value ∙ w.if-contains.true) in cc (w.places-is, w.in_ok-push.ensures.items, c.loop-place.invariant.1)))
-    | else-contains w ↦
-        (omega arith, (let more = place_fails test c.loop-place.place c.loop-place.auto.place (sym c.contains.ensures.value ∙ w.if-contains.false) in cc (w.places-is, c.loop-place.invariant.1)))
+      | then-contains+in_ok-push w ↦
+          (omega arith, (let more = place_passes test c.loop-place.place c.loop-place.auto.place (sym c.contains.ensures.value ∙ w.if-contains.true) in cc (w.places-is, w.in_ok-push.ensures.items, c.loop-place.invariant.1)))
+      | else-contains w ↦
+          (omega arith, (let more = place_fails test c.loop-place.place c.loop-place.auto.place (sym c.contains.ensures.value ∙ w.if-contains.false) in cc (w.places-is, c.loop-place.invariant.1)))
     ]
 
 pub returns : goal.returns

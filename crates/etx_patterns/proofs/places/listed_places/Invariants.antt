@@ -1,5 +1,4 @@
-use Rattle.std.proofs.Common.{◌≡◌, ℕ, ◌+◌, ◌-◌, ◌*◌, ◌<◌, ◌≤◌, ◌++◌, List, [], ◌∷◌, length, take, drop, max, get_or, filter}
-use Rattle.etx_patterns.specs.Shapes.{shape, has_digit, has_zero_letter, letter_count, digit_from, word_marks, path_in, is_odd}
+use Rattle.std.proofs.Common.{◌≡◌, ◌-◌, ◌≤◌, filter}
 use Rattle.std.specs.Prelude.{◌==◌}
 use Rattle.std.specs.List.{range_with_len, list_any}
 use Rattle.etx_patterns.proofs.places.listed_places.Given as goal

@@ -1,4 +1,4 @@
-use Rattle.std.proofs.Common.{◌≡◌, ◌≢◌, ℕ, Bool, true, false, eqb, ◌+◌, ◌-◌, ◌%◌, get_or, filter, ap, sym, ◌∙◌, eq-eqb, arith}
+use Rattle.std.proofs.Common.{◌≡◌, ℕ, Bool, true, false, ◌+◌, ◌-◌, ◌%◌, get_or, filter, ap, ◌∙◌, eq-eqb, arith}
 use Rattle.std.proofs.lemmas.Bool.Decides.{nat_tests}
 use Rattle.std.specs.List.{range_with_len}
 use Rattle.etx_patterns.specs.Shapes.{is_odd}
@@ -16,10 +16,10 @@ pub loop-place-preserved : goal.loop-place-preserved
 loop-place-preserved c =
     let test : ℕ → Bool = λ place. is_odd (get_or c.args.scores.now (place + 1) 0) in
     elim c.if-scores-place-eq1.branch [
-      then-scores-place-eq1+in_ok-push w ↦
-        (omega arith, (let more = place_passes test c.loop-place.place c.loop-place.auto.place (odd _ w.if-scores-place-eq1.true) in cc (w.places-is, w.in_ok-push.ensures.items, c.loop-place.invariant.1)))
-    | else-scores-place-eq1 w ↦
-        (omega arith, (let more = place_fails test c.loop-place.place c.loop-place.auto.place (even _ w.if-scores-place-eq1.false) in cc (w.places-is, c.loop-place.invariant.1)))
+      | then-scores-place-eq1+in_ok-push w ↦
+          (omega arith, (let more = place_passes test c.loop-place.place c.loop-place.auto.place (odd _ w.if-scores-place-eq1.true) in cc (w.places-is, w.in_ok-push.ensures.items, c.loop-place.invariant.1)))
+      | else-scores-place-eq1 w ↦
+          (omega arith, (let more = place_fails test c.loop-place.place c.loop-place.auto.place (even _ w.if-scores-place-eq1.false) in cc (w.places-is, c.loop-place.invariant.1)))
     ]
 
 pub returns : goal.returns

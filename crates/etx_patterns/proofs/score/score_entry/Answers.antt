@@ -1,9 +1,8 @@
-use Rattle.std.proofs.Common.{◌≡◌, ◌<◌, ℕ, ◌+◌, Option, [], max, length, get_or, sym, ap, ◌∙◌, subst, arith, rules}
+use Rattle.std.proofs.Common.{◌≡◌, ◌<◌, [], max, length, get_or, sym, ap, ◌∙◌, arith, rules}
 use Rattle.std.proofs.lemmas.List.{get_or_read}
 use Rattle.etx_patterns.specs.declared.tables.Pattern.{Pattern}
-use Rattle.etx_patterns.specs.declared.step.Step.{Step}
 use Rattle.etx_patterns.specs.Shapes.{digit_from, shape}
-use Rattle.etx_patterns.specs.Scores.{Raised, digit_of_entry, entry_digit, pattern_at}
+use Rattle.etx_patterns.specs.Scores.{digit_of_entry, pattern_at}
 use Rattle.etx_patterns.specs.Tree.{entry_at}
 use Rattle.etx_patterns.proofs.Lookups.{entry_pattern}
 use Rattle.etx_patterns.proofs.score.score_entry.Goals as goal
@@ -18,16 +17,16 @@ returns-in-Some c =
     let read = get_or_read c.args.patterns.now c.in-Some.entry c.index-patterns-entry.result found.0 c.index-patterns-entry.is (record { language = 0; steps = [] }) in
     let steps = c.as_slice.ensures.same ∙ ap (λ (it : Pattern). it.steps) (sym c.index-patterns-entry.is ∙ read) in
     λ place low.
-      c.raise.ensures place low
-      ∙ ap (λ n. max (get_or c.args.scores.now place 0) n)
-          (ap (λ it. digit_from it c.args.start place) steps ∙ ap (λ it. digit_of_entry c.args.patterns.now it c.args.start place) (sym entry))
+    c.raise.ensures place low
+    ∙ ap (λ n. max (get_or c.args.scores.now place 0) n)
+    (ap (λ it. digit_from it c.args.start place) steps ∙ ap (λ it. digit_of_entry c.args.patterns.now it c.args.start place) (sym entry))
 
 pub returns-in_default : goal.returns-in_default
 returns-in_default c =
     let none = sym c.entry.ensures ∙ c.in_default.is in
     λ place low.
-      let same : digit_of_entry c.args.patterns.now (entry_at c.args.trie.now c.args.at) c.args.start place ≡ 0 = ap (λ it. digit_of_entry c.args.patterns.now it c.args.start place) none in
-      omega arith
+    let same : digit_of_entry c.args.patterns.now (entry_at c.args.trie.now c.args.at) c.args.start place ≡ 0 = ap (λ it. digit_of_entry c.args.patterns.now it c.args.start place) none in
+    omega arith
 
 pub offset_bounds-patterns-entry : goal.offset_bounds-patterns-entry
 offset_bounds-patterns-entry c = let low = steps_are c in search rules

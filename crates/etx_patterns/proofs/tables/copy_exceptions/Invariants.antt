@@ -1,4 +1,4 @@
-use Rattle.std.proofs.Common.{◌≡◌, ℕ, ◌+◌, ◌-◌, ◌*◌, ◌<◌, ◌≤◌, ◌++◌, List, [], ◌∷◌, length, take, drop, max, get_or, filter}
+use Rattle.std.proofs.Common.{◌≡◌, take}
 use Rattle.etx_patterns.proofs.tables.copy_exceptions.Given as goal
 
 abbrev pub invariant-loop-exception : goal.invariant-loop-exception

@@ -1,7 +1,6 @@
-use Rattle.std.proofs.Common.{◌≡◌, ◌+◌, ◌<◌, ℕ, List, length, get_or, ap, sym, ◌∙◌, subst, IfOk, None, arith}
-use Rattle.etx_patterns.specs.declared.step.Mark.{Mark}
-use Rattle.etx_patterns.specs.Shapes.{framed, word_marks, path_in, is_odd}
-use Rattle.etx_patterns.specs.Tables.{Tables, exception_of, greatest_digit, places_of, places_that}
+use Rattle.std.proofs.Common.{◌≡◌, ◌<◌, ℕ, List, length, get_or, ap, sym, ◌∙◌, subst, IfOk, None, arith}
+use Rattle.etx_patterns.specs.Shapes.{framed, word_marks, path_in}
+use Rattle.etx_patterns.specs.Tables.{Tables, exception_of, greatest_digit}
 use Rattle.etx_patterns.proofs.Passing.{zeros, places_by_scores}
 use Rattle.etx_patterns.proofs.patterns.Patterns.breaks.Goals as goal
 
@@ -16,10 +15,10 @@ returns c =
     let none : exception_of c.args.self.now.exceptions (path_in c.args.language (word_marks c.args.word.now)) ≡ None = ap (exception_of c.args.self.now.exceptions) (sym path) ∙ c.in_default.ensures in
     let same = c.score_word.auto.scores in
     let all : (place : ℕ) → place < length c.score_word.new.scores → get_or c.score_word.new.scores place 0 ≡ greatest_digit c.args.self.now.patterns c.args.language (framed c.args.word.now) place =
-          λ place low.
-            c.score_word.ensures place (omega arith)
-            ∙ ap (λ it. greatest_digit it c.args.language c.as_slice-3.result.now place) patterns
-            ∙ ap (λ it. greatest_digit c.args.self.now.patterns c.args.language it place) marks
+    λ place low.
+    c.score_word.ensures place (omega arith)
+    ∙ ap (λ it. greatest_digit it c.args.language c.as_slice-3.result.now place) patterns
+    ∙ ap (λ it. greatest_digit c.args.self.now.patterns c.args.language it place) marks
     in
     let equal = places_by_scores c.args.self.now c.args.language c.args.word.now c.score_word.new.scores none (omega arith) all in
     subst (λ (it : List ℕ). IfOk c.odd_places.result (λ v. v.items ≡ it)) equal c.odd_places.ensures

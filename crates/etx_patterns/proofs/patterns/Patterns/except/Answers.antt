@@ -1,8 +1,8 @@
-use Rattle.std.proofs.Common.{◌≡◌, ◌<◌, ◌≤◌, [], None, Some, length, ap, sym, ◌∙◌, arith}
+use Rattle.std.proofs.Common.{◌≡◌, [], length, ap, sym, ◌∙◌, arith}
 use Rattle.std.proofs.lemmas.List.{get_or_read}
 use Rattle.etx_patterns.specs.declared.tables.Exception.{Exception}
 use Rattle.etx_patterns.specs.Shapes.{path_in, word_marks}
-use Rattle.etx_patterns.specs.Tables.{Tables, exception_of, exception_path, exception_at, IsException, with_exception, new_exception, put}
+use Rattle.etx_patterns.specs.Tables.{Tables, exception_of, exception_path, IsException, with_exception, new_exception, put}
 use Rattle.etx_patterns.proofs.Keeping.{kept_exception_replaced, put_replaces}
 use Rattle.etx_patterns.proofs.Refusals.{exception_letter, exception_replaced, exception_full, exception_accepted}
 use Rattle.etx_patterns.proofs.patterns.Patterns.except.Goals as goal
@@ -23,22 +23,22 @@ returns-in-Some-clause-ok c =
     let read = get_or_read c.self.inside.exceptions.items c.in-Some.entry c.index_mut.result.now found.within c.index_mut.ensures.value (record { language = 0; word = []; places = [] }) in
     let path : c.as_slice.result.now ≡ path_in c.args.language (word_marks c.args.word.now) = c.as_slice.ensures.value ∙ c.in_ok-path.ensures in
     rw (← c.self.view_is)
-      (ap (λ (it : _). record { patterns = c.self.inside.patterns.items; exceptions = it })
-        (put_replaces c.self.inside.exceptions.items c.as_slice.result.now c.in-Some.entry c.args.language c.args.word.now c.args.places.now c.in_ok-listed.listed c.index_mut.result.now
-          found path read c.in_ok-listed.ensures))
+    (ap (λ (it : _). record { patterns = c.self.inside.patterns.items; exceptions = it })
+    (put_replaces c.self.inside.exceptions.items c.as_slice.result.now c.in-Some.entry c.args.language c.args.word.now c.args.places.now c.in_ok-listed.listed c.index_mut.result.now
+    found path read c.in_ok-listed.ensures))
 
 pub returns-in-Some-clause-answer : goal.returns-in-Some-clause-answer
 returns-in-Some-clause-answer c =
     let path : c.as_slice.result.now ≡ path_in c.args.language (word_marks c.args.word.now) = c.as_slice.ensures.value ∙ c.in_ok-path.ensures in
     exception_replaced c.args.self.now c.args.language c.args.word.now _ (sym c.contains.ensures.value ∙ c.if-contains.false)
-      (ap (exception_of c.args.self.now.exceptions) (sym path) ∙ c.in-Some.ensures.first)
+    (ap (exception_of c.args.self.now.exceptions) (sym path) ∙ c.in-Some.ensures.first)
 
 pub returns-then-len-ge-MOST_EXCEPTIONS-clause-answer : goal.returns-then-len-ge-MOST_EXCEPTIONS-clause-answer
 returns-then-len-ge-MOST_EXCEPTIONS-clause-answer c =
     let path : c.as_slice.result.now ≡ path_in c.args.language (word_marks c.args.word.now) = c.as_slice.ensures.value ∙ c.in_ok-path.ensures in
     let lengths : length c.self.inside.exceptions.items ≡ length c.args.self.now.exceptions = ap (λ (it : Tables). length it.exceptions) c.self.view_is in
     exception_full c.args.self.now c.args.language c.args.word.now (sym c.contains.ensures.value ∙ c.if-contains.false)
-      (ap (exception_of c.args.self.now.exceptions) (sym path) ∙ c.in_default.ensures) (omega (arith, c.self.inside.exceptions.ok.0))
+    (ap (exception_of c.args.self.now.exceptions) (sym path) ∙ c.in_default.ensures) (omega (arith, c.self.inside.exceptions.ok.0))
 
 pub returns-clause-ok : goal.returns-clause-ok
 unfolding with_exception
@@ -51,4 +51,4 @@ returns-clause-answer c =
     let path : c.as_slice.result.now ≡ path_in c.args.language (word_marks c.args.word.now) = c.as_slice.ensures.value ∙ c.in_ok-path.ensures in
     let lengths : length c.self.inside.exceptions.items ≡ length c.args.self.now.exceptions = ap (λ (it : Tables). length it.exceptions) c.self.view_is in
     exception_accepted c.args.self.now c.args.language c.args.word.now (sym c.contains.ensures.value ∙ c.if-contains.false)
-      (ap (exception_of c.args.self.now.exceptions) (sym path) ∙ c.in_default.ensures) (omega (arith, c.self.inside.exceptions.ok.0))
+    (ap (exception_of c.args.self.now.exceptions) (sym path) ∙ c.in_default.ensures) (omega (arith, c.self.inside.exceptions.ok.0))

@@ -1,4 +1,4 @@
-use Rattle.std.proofs.Common.{◌≡◌, [], sym, ap, ◌∙◌, arith}
+use Rattle.std.proofs.Common.{[], sym, ap, ◌∙◌, arith}
 use Rattle.std.proofs.lemmas.List.{get_or_read}
 use Rattle.etx_patterns.specs.Shapes.{has_digit}
 use Rattle.etx_patterns.specs.declared.tables.Pattern.{Pattern}
@@ -8,7 +8,7 @@ use Rattle.etx_patterns.proofs.patterns.Patterns.is_known.Goals as goal
 pub returns-in_default : goal.returns-in_default
 returns-in_default c =
     rw (← c.self.view_is)
-      (sym (unknown_nowhere c.self.inside.pattern_trie c.self.inside.patterns.items c.args.path.now c.self.invariant.patterns_indexed c.in_default.ensures))
+    (sym (unknown_nowhere c.self.inside.pattern_trie c.self.inside.patterns.items c.args.path.now c.self.invariant.patterns_indexed c.in_default.ensures))
 
 pub index-requires : goal.index-requires
 index-requires c =
@@ -18,7 +18,7 @@ index-requires c =
 pub returns-in-None : goal.returns-in-None
 returns-in-None c =
     rw (← c.self.view_is)
-      (sym (unknown_here c.self.inside.pattern_trie c.self.inside.patterns.items c.args.path.now c.in-Some.at c.self.invariant.patterns_indexed c.in-Some.ensures (sym c.entry.ensures ∙ c.in-None.is)))
+    (sym (unknown_here c.self.inside.pattern_trie c.self.inside.patterns.items c.args.path.now c.in-Some.at c.self.invariant.patterns_indexed c.in-Some.ensures (sym c.entry.ensures ∙ c.in-None.is)))
 
 pub returns-in-Some-entry : goal.returns-in-Some-entry
 returns-in-Some-entry c =

@@ -1,4 +1,3 @@
-use Rattle.std.proofs.Common.{◌≡◌}
 use Rattle.etx_patterns.proofs.Tries.{child_answer}
 use Rattle.etx_patterns.proofs.trie.Trie.child.Goals as goal
 

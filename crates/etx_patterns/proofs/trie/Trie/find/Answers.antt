@@ -1,4 +1,4 @@
-use Rattle.std.proofs.Common.{◌≡◌, ◌<◌, length, refl, arith}
+use Rattle.std.proofs.Common.{refl, arith}
 use Rattle.etx_patterns.proofs.Walks.{none_along}
 use Rattle.etx_patterns.proofs.trie.Trie.find.Goals as goal
 

@@ -1,4 +1,4 @@
-use Rattle.std.proofs.Common.{◌≡◌, ◌++◌, [], ◌∷◌, ap, ◌∙◌, sym, length, arith}
+use Rattle.std.proofs.Common.{◌≡◌, ◌++◌, [], ◌∷◌, ap, ◌∙◌, length, arith}
 use Rattle.std.proofs.lemmas.List.{get_or_read, length_push}
 use Rattle.etx_patterns.specs.Links.{head_at}
 use Rattle.etx_patterns.specs.declared.trie.Head.{Head}
@@ -24,15 +24,15 @@ entry_is c =
 pub invariant_of-self-2 : goal.invariant_of-self-2
 invariant_of-self-2 c =
     IsTrie-grown c.self.inside.nodes.items c.push-2.new.self.items c.self.inside.heads.items c.push.new.self.items c.args.at c.len-fresh.result c.args.mark _
-      c.self.invariant (within_nodes _ _ _ _ c.self.view_is c.self.invariant c.requires.within)
-      (unseen_nodes _ _ _ _ _ c.self.view_is c.self.invariant c.requires.fresh) (nodes_pushed c) (heads_pushed c) (fresh_is c)
+    c.self.invariant (within_nodes _ _ _ _ c.self.view_is c.self.invariant c.requires.within)
+    (unseen_nodes _ _ _ _ _ c.self.view_is c.self.invariant c.requires.fresh) (nodes_pushed c) (heads_pushed c) (fresh_is c)
 
 pub returns-clause-grows : goal.returns-clause-grows
 returns-clause-grows c =
     (grown_tree c.self.inside.nodes.items c.push-2.new.self.items c.self.inside.heads.items c.push.new.self.items c.args.at c.len-fresh.result c.args.mark c.index_mut.result.now.entry
-      c.args.self.now c.self.view_is c.self.invariant c.requires.within c.requires.fresh (nodes_pushed c) (heads_pushed c) (fresh_is c) (entry_is c)).0
+    c.args.self.now c.self.view_is c.self.invariant c.requires.within c.requires.fresh (nodes_pushed c) (heads_pushed c) (fresh_is c) (entry_is c)).0
 
 pub returns-clause-ok : goal.returns-clause-ok
 returns-clause-ok c =
     (grown_tree c.self.inside.nodes.items c.push-2.new.self.items c.self.inside.heads.items c.push.new.self.items c.args.at c.len-fresh.result c.args.mark c.index_mut.result.now.entry
-      c.args.self.now c.self.view_is c.self.invariant c.requires.within c.requires.fresh (nodes_pushed c) (heads_pushed c) (fresh_is c) (entry_is c)).1
+    c.args.self.now c.self.view_is c.self.invariant c.requires.within c.requires.fresh (nodes_pushed c) (heads_pushed c) (fresh_is c) (entry_is c)).1

@@ -1,5 +1,4 @@
-use Rattle.std.proofs.Common.{◌≡◌, ◌<◌, length, take, refl, arith}
-use Rattle.etx_patterns.specs.Tree.{IsOnly, Grows}
+use Rattle.std.proofs.Common.{refl, arith}
 use Rattle.etx_patterns.proofs.Walks.{along}
 use Rattle.etx_patterns.proofs.Tries.{Grows-refl, Grows-trans}
 use Rattle.etx_patterns.proofs.trie.Trie.reach.Goals as goal
@@ -12,8 +11,8 @@ pub loop-mark-preserved : goal.loop-mark-preserved
 loop-mark-preserved c =
     let here = c.loop-mark.invariant.1 in
     elim c.match-child.branch [
-      in-None+in_ok-at-in-None w ↦
-        (rw w.self-is (Grows-trans _ _ _ c.loop-mark.invariant.0 w.in_ok-at-in-None.ensures.grows), rw (w.self-is, w.at-is) (along c.loop-mark.self _ c.args.path.now c.loop-mark.at _ c.loop-mark.mark-index _ _ here (omega arith) refl w.in_ok-at-in-None.ensures.ok))
-    | in-Some w ↦
-        (rw w.self-is c.loop-mark.invariant.0, rw (w.self-is, w.at-is) (along c.loop-mark.self _ c.args.path.now c.loop-mark.at _ c.loop-mark.mark-index _ _ here (omega arith) refl w.in-Some.ensures))
+      | in-None+in_ok-at-in-None w ↦
+          (rw w.self-is (Grows-trans _ _ _ c.loop-mark.invariant.0 w.in_ok-at-in-None.ensures.grows), rw (w.self-is, w.at-is) (along c.loop-mark.self _ c.args.path.now c.loop-mark.at _ c.loop-mark.mark-index _ _ here (omega arith) refl w.in_ok-at-in-None.ensures.ok))
+      | in-Some w ↦
+          (rw w.self-is c.loop-mark.invariant.0, rw (w.self-is, w.at-is) (along c.loop-mark.self _ c.args.path.now c.loop-mark.at _ c.loop-mark.mark-index _ _ here (omega arith) refl w.in-Some.ensures))
     ]

@@ -1,5 +1,3 @@
-use Rattle.std.proofs.Common.{◌≡◌, ◌<◌, [], ◌∙◌, sym, ap, subst, length, arith}
-use Rattle.etx_patterns.specs.Links.{paths_of}
 use Rattle.etx_patterns.proofs.Tries.{root_only, same_sizes}
 use Rattle.etx_patterns.proofs.trie.Trie.root.Goals as goal
 

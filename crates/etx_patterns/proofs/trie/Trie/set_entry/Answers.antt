@@ -1,6 +1,5 @@
-use Rattle.std.proofs.Common.{◌≡◌, Option, Some, ap, ◌∙◌, set, map, ℕ}
+use Rattle.std.proofs.Common.{Some}
 use Rattle.std.proofs.lemmas.List.{map-set}
-use Rattle.etx_patterns.specs.Tree.{Tree}
 use Rattle.etx_patterns.specs.Links.{entry_of}
 use Rattle.etx_patterns.proofs.trie.Trie.set_entry.Goals as goal
 
