@@ -1,0 +1,3 @@
+pub mod Draws
+pub mod Document
+pub mod Font

@@ -1,0 +1,9 @@
+pub mod Linked
+pub mod Tries
+pub mod Walks
+pub mod Indexing
+pub mod Scoring
+pub mod Lookups
+pub mod Keeping
+pub mod Passing
+pub mod Refusals
