@@ -11,8 +11,8 @@ use Rattle.etx_matter.specs.declared.deed.Deed.TheVariants.{Create}
 use Rattle.etx_matter.specs.declared.end.End.{End}
 use Rattle.etx_matter.specs.declared.end.End.TheVariants.{Spent}
 use Rattle.etx_job.specs.declared.mouth.Mouth.{Mouth}
-use Rattle.etx_job.specs.declared.mouth.Yield.{Yield}
-use Rattle.etx_job.specs.declared.mouth.Yield.TheVariants.{Quiet, Act, Load, Done}
+use Rattle.etx_job.specs.declared.scan.Yield.{Yield}
+use Rattle.etx_job.specs.declared.scan.Yield.TheVariants.{Quiet, Act, Load, Done}
 use Rattle.etx_job.specs.Turn.{turned, turn_of, resumed, first_mouth, line_number_of}
 use Rattle.etx_job.specs.Measure.{weight, Falls, Goes, IsNoMore}
 use Rattle.etx_job.specs.Words.{log_name}

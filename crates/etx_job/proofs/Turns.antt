@@ -13,8 +13,8 @@ use Rattle.etx_matter.specs.declared.deed.Deed.{Deed}
 use Rattle.etx_matter.specs.declared.end.End.{End}
 use Rattle.etx_matter.specs.declared.end.End.TheVariants.{Spent}
 use Rattle.etx_job.specs.declared.mouth.Mouth.{Mouth}
-use Rattle.etx_job.specs.declared.mouth.Yield.{Yield}
-use Rattle.etx_job.specs.declared.mouth.Yield.TheVariants.{Quiet, Act, Load, Done}
+use Rattle.etx_job.specs.declared.scan.Yield.{Yield}
+use Rattle.etx_job.specs.declared.scan.Yield.TheVariants.{Quiet, Act, Load, Done}
 use Rattle.etx_job.specs.Turn.{turn_of, resumed, line_number_of}
 use Rattle.etx_job.specs.Chain.{Start, World, with_deeds, closing, ended, handled, step_open, step, chain}
 use Rattle.etx_job.specs.Going.{more_waiting, world_of, IsFor, Going, Over, AfterTurn, Asks, Cut}

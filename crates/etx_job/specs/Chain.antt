@@ -12,8 +12,8 @@ use Rattle.etx_matter.specs.declared.end.End.{End}
 use Rattle.etx_matter.specs.declared.end.End.TheVariants.{Ended, Fatal, Spent, Unbuilt}
 use Rattle.etx_matter.specs.Jobs.{JobState}
 use Rattle.etx_job.specs.declared.mouth.Mouth.{Mouth}
-use Rattle.etx_job.specs.declared.mouth.Yield.{Yield}
-use Rattle.etx_job.specs.declared.mouth.Yield.TheVariants.{Quiet, Act, Load, Done}
+use Rattle.etx_job.specs.declared.scan.Yield.{Yield}
+use Rattle.etx_job.specs.declared.scan.Yield.TheVariants.{Quiet, Act, Load, Done}
 use Rattle.etx_job.specs.Turn.{turn_of, resumed, first_mouth, line_number_of}
 use Rattle.etx_job.specs.Words.{log_name}
 

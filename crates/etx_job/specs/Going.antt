@@ -6,7 +6,7 @@ use Rattle.etx_settle.specs.Deeds.{JournalState, entries, pen_after_all}
 use Rattle.etx_matter.specs.declared.deed.Deed.{Deed}
 use Rattle.etx_matter.specs.declared.end.End.{End}
 use Rattle.etx_job.specs.declared.mouth.Mouth.{Mouth}
-use Rattle.etx_job.specs.declared.mouth.Yield.TheVariants.{Load}
+use Rattle.etx_job.specs.declared.scan.Yield.TheVariants.{Load}
 use Rattle.etx_job.specs.Chain.{Start, World, IsMean, handled, chain}
 
 -- the journal has these deeds more to write

@@ -1,8 +1,12 @@
+pub mod Categories
 pub mod Chain
 pub mod Fault
 pub mod Going
 pub mod Input
 pub mod Meaning
 pub mod Measure
+pub mod Messages
+pub mod Printing
+pub mod Rows
 pub mod Turn
 pub mod Words

@@ -1,11 +1,13 @@
 -- What each turn makes smaller, so that each job ends: a turn that takes no step makes the mouth's weight less.
-use Rattle.std.specs.Prelude.{◌≡◌, ℕ, ◌<◌, ◌≤◌, ◌⊎◌}
+use Rattle.std.specs.Prelude.{◌≡◌, ℕ, ◌+◌, ◌<◌, ◌≤◌, ◌⊎◌}
 use Rattle.etx_job.specs.Turn.{Turned}
 use Rattle.etx_job.specs.declared.mouth.Mouth.{Mouth}
 use Rattle.etx_job.specs.declared.mouth.Source.{Source}
 use Rattle.etx_job.specs.declared.mouth.Source.TheVariants.{Unasked, Awaited, Absent, Refused, Reading}
-use Rattle.etx_job.specs.declared.mouth.Yield.{Yield}
-use Rattle.etx_job.specs.declared.mouth.Yield.TheVariants.{Quiet, Act, Load, Done}
+use Rattle.etx_job.specs.declared.scan.Scan.{Scan}
+use Rattle.etx_job.specs.declared.scan.Scan.TheVariants as scan
+use Rattle.etx_job.specs.declared.scan.Yield.{Yield}
+use Rattle.etx_job.specs.declared.scan.Yield.TheVariants.{Quiet, Act, Load, Done}
 
 -- how many turns a source may give before a token is got
 abbrev pub turns_before : Source → ℕ
@@ -15,8 +17,13 @@ turns_before (Absent name) = 1
 turns_before Refused = 0
 turns_before (Reading input) = 0
 
+-- and a text that is to be said gives one more
+abbrev pub turns_to_say : Scan → ℕ
+turns_to_say (scan.Say text) = 1
+turns_to_say s = 0
+
 abbrev pub weight : Mouth → ℕ
-weight v = turns_before v.source
+weight v = turns_before v.source + turns_to_say v.scan
 
 -- a step was taken, or the weight fell
 abbrev pub Falls : Mouth → Mouth → Type 0

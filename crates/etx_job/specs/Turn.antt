@@ -1,33 +1,23 @@
 -- One turn of the mouth: what becomes of it, and what it yields.
-use Rattle.std.specs.Prelude.{ℕ, ◌+◌, Bool, true, false, ◌==◌, ◌&&◌, ◌||◌, nat_le, List, ◌++◌, Option, Some, None, if◌then◌else◌, codes}
-use Rattle.std.specs.Str.{bytes_eq}
+use Rattle.std.specs.Prelude.{ℕ, ◌+◌, Bool, true, false, List, ◌++◌, Option, Some, None, codes}
 use Rattle.etx_outside.specs.declared.tree.Loaded.{Loaded}
 use Rattle.etx_outside.specs.declared.tree.Loaded.TheVariants as loaded
 use Rattle.etx_matter.specs.declared.deed.Audience.TheVariants.{LogAndTerminal}
-use Rattle.etx_matter.specs.declared.deed.Deed.TheVariants.{Error}
-use Rattle.etx_matter.specs.declared.end.End.TheVariants.{Ended, Fatal, Unbuilt}
+use Rattle.etx_matter.specs.declared.deed.Deed.TheVariants.{Text, Error}
+use Rattle.etx_matter.specs.declared.end.End.{End}
+use Rattle.etx_matter.specs.declared.end.End.TheVariants.{Fatal, Unbuilt}
 use Rattle.etx_matter.specs.declared.end.FatalError.TheVariants.{NoLegalEnd, FileError}
 use Rattle.etx_lexer.specs.declared.lexed.Lexed.{Lexed}
-use Rattle.etx_lexer.specs.declared.lexed.Lexed.TheVariants.{Char, Name, LineEnd, Invalid}
+use Rattle.etx_job.specs.Categories.{initial_categories, category_in}
 use Rattle.etx_job.specs.Input.{InputState, Next, unread, next_of}
+use Rattle.etx_job.specs.Rows.{Planned, scan_row}
 use Rattle.etx_job.specs.declared.mouth.Mouth.{Mouth}
 use Rattle.etx_job.specs.declared.mouth.Source.{Source}
 use Rattle.etx_job.specs.declared.mouth.Source.TheVariants.{Unasked, Awaited, Absent, Refused, Reading}
-use Rattle.etx_job.specs.declared.mouth.Yield.{Yield}
-use Rattle.etx_job.specs.declared.mouth.Yield.TheVariants.{Quiet, Act, Load, Done}
-
--- the category that INITEX gives a character: \ escapes, letters are letters, the space and the return are what they are
--- called, % begins a comment, the null is ignored, the delete is invalid, and every other is an other character
-unfoldable pub initial_category : ℕ → ℕ
-initial_category c =
-    if c == 92 then 0
-    else if (nat_le 65 c && nat_le c 90) || (nat_le 97 c && nat_le c 122) then 11
-    else if c == 32 then 10
-    else if c == 13 then 5
-    else if c == 37 then 14
-    else if c == 0 then 9
-    else if c == 127 then 15
-    else 12
+use Rattle.etx_job.specs.declared.scan.Scan.{Scan}
+use Rattle.etx_job.specs.declared.scan.Scan.TheVariants as scan
+use Rattle.etx_job.specs.declared.scan.Yield.{Yield}
+use Rattle.etx_job.specs.declared.scan.Yield.TheVariants.{Act, Load, Done}
 
 -- the mouth behind a turn, and what the turn yields
 pub record Turned : Type 0 where
@@ -39,7 +29,7 @@ turned v did = record { now = v; did = did }
 
 -- the mouth of INITEX, which is to read the main file
 unfoldable pub first_mouth : List ℕ → Mouth
-first_mouth name = record { source = Unasked name; spent = 0 }
+first_mouth name = record { source = Unasked name; scan = scan.Commands; categories = initial_categories; spent = 0 }
 
 -- the number of the line that was read last, or 0
 abbrev pub line_number_in : Source → ℕ
@@ -52,29 +42,40 @@ line_number_in (Reading input) = input.number
 unfoldable pub line_number_of : Mouth → ℕ
 line_number_of v = line_number_in v.source
 
--- a space does nothing in vertical mode, and every other character is still to come
-abbrev pub character_row : ℕ → Yield
-character_row cat = if cat == 10 then Quiet else Done Unbuilt
+-- a main file that is over ends the job, inside a command as something that isn't built
+abbrev pub over : Scan → End
+over scan.Commands = Fatal NoLegalEnd
+over scan.CatcodeQuote = Unbuilt
+over scan.CatcodeCharacter = Unbuilt
+over (scan.CatcodeEquals code) = Unbuilt
+over (scan.CatcodeFirst code) = Unbuilt
+over (scan.CatcodeSecond code value) = Unbuilt
+over (scan.CatcodeSpace code value) = Unbuilt
+over scan.MessageBrace = Unbuilt
+over (scan.MessageText m) = Unbuilt
+over (scan.Say text) = Unbuilt
 
--- \relax and, in vertical mode, \par do nothing
-abbrev pub name_row : List ℕ → Yield
-name_row name =
-    if bytes_eq name (codes "relax") then Quiet
-    else if bytes_eq name (codes "par") then Quiet
-    else if bytes_eq name (codes "end") then Done Ended
-    else Done Unbuilt
+-- the steps of a token: getting it is one, and copying it another
+abbrev pub steps_of : Bool → ℕ
+steps_of true = 2
+steps_of false = 1
 
--- a line's end is never got: the next line is read
-unfoldable pub command_row : Lexed → Yield
-command_row (Char code cat) = character_row cat
-command_row (Name name) = name_row name
-command_row LineEnd = Quiet
-command_row (Invalid code) = Done Unbuilt
+-- what a row made of a token
+abbrev pub planned_turn : Planned → InputState → Mouth → Turned
+planned_turn p input v = turned (record { source = Reading input; scan = p.plan.scan; categories = p.categories; spent = v.spent + steps_of p.plan.is_copied }) p.plan.did
 
--- a token is got, which is a step, and carried out; a main file that is over ends the job
-abbrev pub command_turn : Option Lexed → InputState → Mouth → Turned
-command_turn None input v = turned (record v { source = Reading input }) (Done (Fatal NoLegalEnd))
-command_turn (Some got) input v = turned (record { source = Reading input; spent = v.spent + 1 }) (command_row got)
+-- a token is got, if there is one
+abbrev pub token_turn : Option Lexed → InputState → Mouth → Turned
+token_turn None input v = turned (record v { source = Reading input }) (Done (over v.scan))
+token_turn (Some got) input v = planned_turn (scan_row v.scan got v.categories) input v
+
+abbrev pub next_turn : Next → Mouth → Turned
+next_turn next v = token_turn next.got next.input v
+
+-- a text is said before the next token is got
+abbrev pub reading_turn : Scan → InputState → Mouth → Turned
+reading_turn (scan.Say text) input v = turned (record v { source = Reading input; scan = scan.Commands }) (Act (Text text LogAndTerminal))
+reading_turn s input v = next_turn (next_of (category_in v.categories) input) v
 
 abbrev pub cant_find : List ℕ → List ℕ
 cant_find name = codes "I can't find file `" ++ name ++ codes "'"
@@ -85,7 +86,7 @@ source_turn (Unasked name) v = turned (record v { source = Awaited name }) (Load
 source_turn (Awaited name) v = turned (record v { source = Refused }) (Done (Fatal FileError))
 source_turn (Absent name) v = turned (record v { source = Refused }) (Act (Error (cant_find name) 0 LogAndTerminal))
 source_turn Refused v = turned (record v { source = Refused }) (Done (Fatal FileError))
-source_turn (Reading input) v = command_turn (next_of initial_category input).got (next_of initial_category input).input v
+source_turn (Reading input) v = reading_turn v.scan input v
 
 unfoldable pub turn_of : Mouth → Turned
 turn_of v = source_turn v.source v

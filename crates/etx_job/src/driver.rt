@@ -13,7 +13,8 @@ ghost use Rattle.etx_job.specs.Meaning.{AtAsk};
 ghost use Rattle.etx_job.specs.Going.{more_waiting, IsFor, Going, AfterTurn, Asks, Cut, Settled};
 
 use crate::fault::Fault;
-use crate::mouth::{Mouth, Yield};
+use crate::mouth::Mouth;
+use crate::scan::Yield;
 use crate::words::name_log;
 use etx_lists::Bytes;
 use etx_matter::{Audience, Deed, End, FatalError, Job};
@@ -162,7 +163,7 @@ fn turn<F: Tree, T: Terminal>(
     terminal: &mut T,
 ) -> Result<Option<End>, Fault>
     requires open { AllOpen (F.is_open tree.old) journal.old.pen.created }
-    requires room { mouth.old.spent + 1 < 2 ^ 64 }
+    requires room { mouth.old.spent + 2 < 2 ^ 64 }
     ensures going { IfOk result (λ end. F.tells → T.tells → (start : Start) (first : Outside) → IsFor start first → start.job.budget ≡ budget →
         Going start first mouth.old journal.old (outside_of F.files F.asked T.text tree.old terminal.old)
         → AfterTurn end start first mouth.new journal.new (outside_of F.files F.asked T.text tree.new terminal.new)) }
@@ -229,7 +230,7 @@ pub fn run<F: Tree, T: Terminal>(
     let budget = job.budget();
     let mut journal = Journal::new(alloc);
     journal.push(Deed::Create(name_log(alloc, job.name())?))?;
-    let mut mouth = Mouth::new(job.into_name());
+    let mut mouth = Mouth::new(alloc, job.into_name())?;
     // A turn may take no step, but then it makes the mouth's weight less: the inner loop ends by that, and the outer one
     // since the budget is spent.
     'steps: loop {

@@ -4,11 +4,16 @@
 //! plain meaning of its words, which `specs/Chain.antt` and `specs/Meaning.antt` define.
 #![tactic(auto)]
 
+mod categories;
 mod driver;
 mod fault;
 mod input;
 mod law;
+mod message;
 mod mouth;
+mod printing;
+mod rows;
+mod scan;
 #[cfg(test)]
 mod tests;
 mod typeset;

@@ -1,28 +1,18 @@
 //! The mouth of a job: it reads the main file, and one turn handles one token.
 ghost use Rattle.std.specs.Prelude.{◌≡◌, ◌≤◌, ◌<◌, ◌+◌, ◌^◌, IfOk, OnOk};
-ghost use Rattle.etx_job.specs.Turn.{initial_category, turn_of, first_mouth, line_number_in, line_number_of, character_row, name_row, command_row, command_turn, cant_find, source_of, resumed};
+ghost use Rattle.etx_job.specs.Categories.{category_in};
+ghost use Rattle.etx_job.specs.Turn.{turn_of, first_mouth, line_number_in, line_number_of, over, steps_of, next_turn, reading_turn, cant_find, source_of, resumed};
 ghost use Rattle.etx_job.specs.Input.{next_of};
 ghost use Rattle.etx_job.specs.Measure.{Goes, IsNoMore};
 
+use crate::categories::Categories;
 use crate::input::Input;
-use etx_lexer::{CatOf, Lexed};
+use crate::rows::handle;
+use crate::scan::{Scan, Yield};
 use etx_lists::Bytes;
 use etx_matter::{Audience, Deed, End, FatalError};
 use etx_outside::Loaded;
 use std::alloc::{AllocError, Global};
-
-/// What a turn yields.
-#[derive(Drop)]
-pub enum Yield {
-    /// Nothing.
-    Quiet,
-    /// Something is done to the outside.
-    Act(Deed),
-    /// A file is asked for. The mouth takes the answer by `resume` before its next turn.
-    Load(Bytes),
-    /// The job ends.
-    Done(End),
-}
 
 /// What the mouth reads from.
 #[derive(Drop)]
@@ -43,68 +33,34 @@ pub enum Source {
 #[derive(Drop)]
 pub struct Mouth {
     pub source: Source,
+    /// What the next token is for.
+    pub scan: Scan,
+    pub categories: Categories,
     /// How many steps were taken.
     pub spent: u64,
 }
 
-/// The categories that INITEX gives.
-struct InitialCategories;
-
-impl CatOf for InitialCategories {
-    ghost category = { λ _ c. initial_category c };
-
-    #[tactic(auto, unfolding(crate::specs::Turn::initial_category))]
-    fn cat(&self, code: u8) -> u8 {
-        match code {
-            b'\\' => 0,
-            b'A'..=b'Z' | b'a'..=b'z' => 11,
-            b' ' => 10,
-            b'\r' => 5,
-            b'%' => 14,
-            0 => 9,
-            127 => 15,
-            _ => 12,
-        }
-    }
+/// The steps of a token.
+fn find_steps(is_copied: bool) -> u64
+    ensures value { result ≡ steps_of is_copied }
+    ensures some { 0 < result }
+    ensures small { result ≤ 2 }
+{
+    if is_copied { 2 } else { 1 }
 }
 
-fn do_character(cat: u8) -> Yield
-    ensures { result ≡ character_row cat }
+/// How a job ends whose main file is over in this scan.
+fn find_over(scan: &Scan) -> End
+    ensures { result ≡ over scan.now }
 {
-    if cat == 10 {
-        Yield::Quiet
-    } else {
-        Yield::Done(End::Unbuilt)
-    }
-}
-
-fn do_name(name: &[u8]) -> Yield
-    ensures { result ≡ name_row name.now }
-{
-    if name == b"relax".as_slice() || name == b"par".as_slice() {
-        Yield::Quiet
-    } else if name == b"end".as_slice() {
-        Yield::Done(End::Ended)
-    } else {
-        Yield::Done(End::Unbuilt)
-    }
-}
-
-/// Carries out a token, in vertical mode.
-#[tactic(auto, unfolding(crate::specs::Turn::command_row))]
-fn do_command(lexed: &Lexed) -> Yield
-    ensures { result ≡ command_row lexed.now }
-{
-    match lexed {
-        Lexed::Char { cat, .. } => do_character(*cat),
-        Lexed::Name(name) => do_name(name.as_slice()),
-        Lexed::LineEnd => Yield::Quiet,
-        Lexed::Invalid(_) => Yield::Done(End::Unbuilt),
+    match scan {
+        Scan::Commands => End::Fatal(FatalError::NoLegalEnd),
+        _ => End::Unbuilt,
     }
 }
 
 /// The text of the error that there is no file of this name.
-fn find_no(alloc: Global, name: &[u8]) -> Result<Bytes, AllocError>
+fn cant_find_text(alloc: Global, name: &[u8]) -> Result<Bytes, AllocError>
     ensures { IfOk result (λ text. text ≡ cant_find name.now) }
 {
     let mut text = Bytes::from_slice(alloc, b"I can't find file `")?;
@@ -142,13 +98,16 @@ impl Source {
 impl Mouth {
     /// The mouth of INITEX, which is to read the main file of this name.
     #[tactic(auto, unfolding(crate::specs::Turn::first_mouth))]
-    pub fn new(name: Bytes) -> Mouth
-        ensures { result ≡ first_mouth name }
+    pub fn new(alloc: Global, name: Bytes) -> Result<Mouth, AllocError>
+        ensures { IfOk result (λ mouth. mouth ≡ first_mouth name) }
     {
-        Mouth {
+        let categories = Categories::new(alloc)?;
+        Ok(Mouth {
             source: Source::Unasked(name),
+            scan: Scan::Commands,
+            categories,
             spent: 0,
-        }
+        })
     }
 
     /// The number of the line that was read last, or 0.
@@ -162,7 +121,7 @@ impl Mouth {
     /// Makes one turn. After an `Err` the mouth is only dropped.
     #[tactic(auto, unfolding(crate::specs::Turn::turn_of))]
     pub fn turn(&mut self, alloc: Global) -> Result<Yield, AllocError>
-        requires { self.old.spent + 1 < 2 ^ 64 }
+        requires { self.old.spent + 2 < 2 ^ 64 }
         ensures now { OnOk result (self.new ≡ (turn_of self.old).now) }
         ensures did { IfOk result (λ did. did ≡ (turn_of self.old).did) }
         ensures goes { IfOk result (λ did. Goes self.old (record { now = self.new; did = did })) }
@@ -174,18 +133,66 @@ impl Mouth {
                 self.source = Source::Awaited(name);
                 Ok(Yield::Load(asked))
             }
-            Source::Awaited(_) | Source::Refused => Ok(Yield::Done(End::Fatal(
-                FatalError::FileError,
-            ))),
+            Source::Awaited(_) | Source::Refused => {
+                Ok(Yield::Done(End::Fatal(FatalError::FileError)))
+            }
             Source::Absent(name) => {
-                let text = find_no(alloc, name.as_slice())?;
+                let text = cant_find_text(alloc, name.as_slice())?;
                 Ok(Yield::Act(Deed::Error {
                     text,
                     line: 0,
                     audience: Audience::LogAndTerminal,
                 }))
             }
-            Source::Reading(input) => self.read(alloc, input),
+            Source::Reading(input) => {
+                let did = self.read(alloc, input)?;
+                Ok(did)
+            }
+        }
+    }
+
+    /// Says what is to be said, or gets a token of the main file and does with it what the scan is for.
+    fn read(&mut self, alloc: Global, input: Input) -> Result<Yield, AllocError>
+        requires { self.old.spent + 2 < 2 ^ 64 }
+        ensures now { OnOk result (self.new ≡ (reading_turn self.old.scan input self.old).now) }
+        ensures did { IfOk result (λ did. did ≡ (reading_turn self.old.scan input self.old).did) }
+    {
+        let scan = std::mem::replace(&mut self.scan, Scan::Commands);
+        match scan {
+            Scan::Say(bytes) => {
+                self.source = Source::Reading(input);
+                Ok(Yield::Act(Deed::Text {
+                    bytes,
+                    audience: Audience::LogAndTerminal,
+                }))
+            }
+            scan => {
+                let did = self.take(alloc, scan, input)?;
+                Ok(did)
+            }
+        }
+    }
+
+    /// Gets a token of the main file for a scan.
+    fn take(&mut self, alloc: Global, scan: Scan, mut input: Input) -> Result<Yield, AllocError>
+        requires { self.old.spent + 2 < 2 ^ 64 }
+        ensures now { OnOk result (self.new ≡ (next_turn (next_of (category_in self.old.categories) input) (record self.old { scan = scan })).now) }
+        ensures did { IfOk result (λ did. did ≡ (next_turn (next_of (category_in self.old.categories) input) (record self.old { scan = scan })).did) }
+    {
+        let got = input.next(alloc, &self.categories)?;
+        self.source = Source::Reading(input);
+        match got {
+            None => {
+                let end = find_over(&scan);
+                self.scan = scan;
+                Ok(Yield::Done(end))
+            }
+            Some(lexed) => {
+                let plan = handle(alloc, scan, &lexed, &mut self.categories)?;
+                self.scan = plan.scan;
+                self.spent += find_steps(plan.is_copied);
+                Ok(plan.did)
+            }
         }
     }
 
@@ -198,22 +205,5 @@ impl Mouth {
         let source = std::mem::replace(&mut self.source, Source::Refused);
         self.source = source.answered(alloc, loaded)?;
         Ok(())
-    }
-
-    /// Gets a token of the main file, and carries it out.
-    fn read(&mut self, alloc: Global, mut input: Input) -> Result<Yield, AllocError>
-        requires { self.old.spent + 1 < 2 ^ 64 }
-        ensures now { OnOk result (self.new ≡ (command_turn (next_of initial_category input).got (next_of initial_category input).input self.old).now) }
-        ensures did { IfOk result (λ did. did ≡ (command_turn (next_of initial_category input).got (next_of initial_category input).input self.old).did) }
-    {
-        let got = input.next(alloc, &InitialCategories)?;
-        self.source = Source::Reading(input);
-        match got {
-            None => Ok(Yield::Done(End::Fatal(FatalError::NoLegalEnd))),
-            Some(lexed) => {
-                self.spent += 1;
-                Ok(do_command(&lexed))
-            }
-        }
     }
 }

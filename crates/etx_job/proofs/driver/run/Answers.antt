@@ -18,6 +18,9 @@ returns-in_err-name_log-clause-cut g c = λ a b start files is. cut_nothing _ _
 pub returns-in_err-push-clause-cut : goal.returns-in_err-push-clause-cut
 returns-in_err-push-clause-cut g c = λ a b start files is. cut_nothing _ _
 
+pub returns-in_err-mouth-clause-cut : goal.returns-in_err-mouth-clause-cut
+returns-in_err-mouth-clause-cut g c = λ a b start files is. cut_nothing _ _
+
 pub steps-init : goal.steps-init
 unfolding first_mouth
 steps-init g c =
@@ -26,7 +29,7 @@ steps-init g c =
     ∙ ap (λ (j : JournalState). record j { waiting = j.waiting ++ Create c.in_ok-name_log.field-0 ∷ [] }) c.new-journal.ensures
     ∙ ap (λ (l : List ℕ). record { pen = first_pen; waiting = Create l ∷ [] }) (c.in_ok-name_log.ensures ∙ ap log_name c.name.ensures) in
     record {
-      within = let none : c.new-mouth.result.spent ≡ 0 = ap (λ (m : Mouth). m.spent) c.new-mouth.ensures in omega arith;
+      within = let none : c.in_ok-mouth.mouth.spent ≡ 0 = ap (λ (m : Mouth). m.spent) c.in_ok-mouth.ensures in omega arith;
       asked = c.budget-budget.ensures.value;
       bounded = c.budget-budget.ensures.bounded;
       opened = λ q is. absurd (let no : false ≡ true = subst (λ (j : JournalState). is_among q j.pen.created ≡ true) journal is in cc);
@@ -34,7 +37,7 @@ steps-init g c =
       going = λ a b start files is. going_starts
           _
           _
-          (c.new-mouth.ensures ∙ ap first_mouth c.into_name.ensures ∙ ap (λ (j : JobState). first_mouth j.name) (sym is))
+          (c.in_ok-mouth.ensures ∙ ap first_mouth c.into_name.ensures ∙ ap (λ (j : JobState). first_mouth j.name) (sym is))
           (journal ∙ ap (λ (j : JobState). record { pen = first_pen; waiting = Create (log_name j.name) ∷ [] }) (sym is));
     }
 

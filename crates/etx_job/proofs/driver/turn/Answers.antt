@@ -1,6 +1,6 @@
 use Rattle.std.proofs.Common.{◌≡◌, ◌<◌, ◌≤◌, refl, sym, ◌∙◌, ap, arith, rules, List, ℕ}
-use Rattle.etx_job.specs.declared.mouth.Yield.{Yield}
-use Rattle.etx_job.specs.declared.mouth.Yield.TheVariants.{Load}
+use Rattle.etx_job.specs.declared.scan.Yield.{Yield}
+use Rattle.etx_job.specs.declared.scan.Yield.TheVariants.{Load}
 use Rattle.etx_job.specs.declared.mouth.Mouth.{Mouth}
 use Rattle.etx_job.specs.Turn.{turn_of, line_number_of}
 use Rattle.etx_outside.proofs.Outsides.{front_all}
