@@ -116,21 +116,65 @@ fn a_source_may_be_absent_or_too_long(rt: HostRuntime) -> Result<(), Fail> {
     Ok(())
 }
 
+/// Sources that ask for what isn't built: a name that isn't, characters as commands, a `\\catcode` or a `\\message` of another
+/// form, and what a message doesn't take.
+const UNBUILT_SOURCES: &[&[u8]] = &[
+    b"\\relax x\\end",
+    b"{",
+    b"\\ \\end",
+    b"\x7f\\end",
+    b"\\",
+    b"~",
+    b"\\catcode65=1 \\end",
+    b"\\catcode`\\relax=1 \\end",
+    b"\\catcode`a=16 \\end",
+    b"\\catcode`a=123 \\end",
+    b"\\catcode`a==1 \\end",
+    b"\\catcode`a\\end",
+    b"\\catcode",
+    b"\\message{}\\end",
+    b"\\catcode`!=14!\\end",
+    b"\\catcode`{=1{\\catcode`}=2 \\message{}\\end",
+    b"\\catcode`{=1 \\message{a",
+    b"\\catcode`{=1 \\message{\\undefined",
+    b"\\catcode`{=1 \\message{\x7f",
+    b"\\catcode`{=1 \\catcode`a=13 \\message{a",
+];
+
 #[test]
 fn what_is_not_built_ends_the_job(rt: HostRuntime) -> Result<(), Fail> {
     let alloc = rt.alloc();
-    for source in [
-        b"\\relax x\\end".as_slice(),
-        b"{",
-        b"\\message{}",
-        b"\\ \\end",
-        b"\x7f\\end",
-        b"\\",
-        b"~",
-    ] {
-        let left = call(alloc, &["alone", "job"], source)?;
+    for source in UNBUILT_SOURCES {
+        let left = call(alloc, &["alone", "job"], *source)?;
         assert!(rt; left.is(Status::Stopped, b"job.log", UNBUILT));
     }
+    Ok(())
+}
+
+#[test]
+fn a_message_is_said(rt: HostRuntime) -> Result<(), Fail> {
+    let alloc = rt.alloc();
+    let source = b"\\catcode`\\{=1 \\catcode`\\}=2 \\catcode`\\#=6\n\\message{hi}\n";
+    let left = call(alloc, &["alone", "job"], source)?;
+    assert!(rt; left.is(Status::Stopped, b"job.log", HI));
+    Ok(())
+}
+
+const HI: &[u8] =
+    b"hi\n! Emergency stop.\nl.2\n*** (job aborted, no legal \\end found)\nNo pages of output.\n";
+
+/// What real e-TeX says of `MESSAGES`, line for line.
+const SAID: &[u8] =
+    b"a\\relax b##{c}d e  \\par \\end \\message \\catcode  ^^A^^c1^^^5e41 a\nb x yz w\nNo pages of output.\n";
+
+const MESSAGES: &[u8] =
+    b"\\catcode`\\{=1 \\catcode`\\}=2 \\catcode`\\#=6\n\\message{a\\relax b#{c}d}\\message{e}\\message{}\\message{\\par\\end\\message\\catcode}\n\\catcode`\\^=7 \\message{^^A^^c1^^5e^^5e41}\\catcode`\\^^@=12 \\message{a^^@b}\n\\catcode`\\!=14 !\\undefined\n\\catcode`\\@=0 @message{x  y%\nz\nw}\\end\n";
+
+#[test]
+fn messages_are_printed_as_etex_prints_them(rt: HostRuntime) -> Result<(), Fail> {
+    let alloc = rt.alloc();
+    let left = call(alloc, &["alone", "job"], MESSAGES)?;
+    assert!(rt; left.is(Status::Clean, b"job.log", SAID));
     Ok(())
 }
 
