@@ -1,0 +1,5 @@
+pub mod Arguments
+pub mod Depths
+pub mod Steps
+pub mod Texts
+pub mod Turns
