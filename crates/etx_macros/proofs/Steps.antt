@@ -1,6 +1,9 @@
 -- The match of a call, step by step.
-use Rattle.std.proofs.Common.{◌≡◌, ℕ, zero, suc, ◌<◌, ◌≤◌, ◌+◌, ◌-◌, Bool, true, false, eqb, cond, List, [], ◌∷◌, ◌++◌, Option, Some, None, ◌⊎◌, inl, inr, length, get_or, take, refl, sym, ap, subst, ◌∙◌, arith, add-one}
-use Rattle.std.proofs.lemmas.List.{append-nil, append_assoc, take_more, take_all}
+use Rattle.std.proofs.Common.{Result, Ok, Err, IfOk, drop, ◌≡◌, ℕ, zero, suc, ◌<◌, ◌≤◌, ◌+◌, ◌-◌, Bool, true, false, eqb, cond, List, [], ◌∷◌, ◌++◌, Option, Some, None, ◌⊎◌, inl, inr, length, get_or, take, refl, sym, ap, subst, ◌∙◌, arith, add-one}
+use Rattle.std.proofs.lemmas.List.{append-nil, append_assoc, take_more, take_all, take_at, length-append, get_or_at, nil_from_length}
+use Rattle.std.proofs.lemmas.Option.{slice_get_within, get_or_from_slice_get, slice_get-get_or}
+use Rattle.std.specs.Prelude.{slice_get}
+use Rattle.std.specs.declared.alloc.AllocError.{AllocError}
 use Rattle.std.proofs.lemmas.Bool.{eqb-true, eqb-false}
 use Rattle.etx_matter.specs.declared.token.Token.{Token}
 use Rattle.etx_macros.specs.declared.argument.Turn.{Turn}
@@ -12,7 +15,10 @@ use Rattle.etx_macros.specs.Marks.{has_category, is_space, is_par, behind, depth
 use Rattle.etx_macros.specs.Calls.{Gives, EndsInside, ParsAreAllowed, AreSpaces, IsUndelimited, IsDelimited, IsArgument, MatchesCall, text_before, with_argument}
 use Rattle.etx_macros.specs.Matching.{said_at, IsFound, undelimited_turn, delimited_turn}
 use Rattle.etx_macros.specs.Within.{InGroup, InDelimited, Within}
-use Rattle.etx_macros.specs.Progress.{InText, InArgument, IsGoing, IsDone, IsAfter, IsWhole, Means}
+use Rattle.etx_macros.specs.Progress.{InText, InArgument, IsGoing, IsDone, IsAfter, IsWhole, Means, IsCause, EndsArgument, IsStart}
+use Rattle.etx_macros.specs.declared.fault.MatchFault.{MatchFault}
+use Rattle.etx_macros.specs.declared.fault.MatchFault.TheVariants.{DoesNotMatch, ParagraphEnded, ExtraBrace}
+use Rattle.etx_macros.proofs.Turns.{Faulty}
 use Rattle.etx_macros.proofs.Arguments.{spaces_push, bare_skip, bare_keep, bare_found, delimited_found, delimited_more, within_start}
 
 part_more : (parts : List (List Token)) (part : ℕ) → part < length parts → take (part + 1) parts ≡ take part parts ++ get_or parts part [] ∷ []
@@ -105,3 +111,96 @@ module _ (parts : List (List Token)) (long : Bool) (args : List (List Token)) (p
 pub text_end : (parts : List (List Token)) (long : Bool) → 0 < length parts → MatchesCall long (take 1 parts) (get_or parts 0 []) []
 text_end [] long l = absurd (omega arith)
 text_end (p ∷ ps) long l = text_before p
+
+pub in_argument : (parts : List (List Token)) (long : Bool) (args : List (List Token)) (part : ℕ) (read : List Token) (depth : ℕ) (call : List Token) → 0 < part → InText parts args part read depth call ⊎ InArgument parts long args part read depth call → InArgument parts long args part read depth call
+in_argument parts long args part read depth call l (inl x) = absurd (omega (arith, x.first))
+in_argument parts long args part read depth call l (inr x) = x
+
+pub in_text : (parts : List (List Token)) (long : Bool) (args : List (List Token)) (part : ℕ) (read : List Token) (depth : ℕ) (call : List Token) → part ≡ 0 → InText parts args part read depth call ⊎ InArgument parts long args part read depth call → InText parts args part read depth call
+in_text parts long args part read depth call l (inl x) = x
+in_text parts long args part read depth call l (inr x) = absurd (omega (arith, x.past_text))
+
+pub cause_of : (m : Matcher) (t : Token) (f : MatchFault) → 0 < m.part → Faulty f m.depth m.long t → IsCause f m t
+cause_of m t f l (inl h) = subst (λ (g : MatchFault). IsCause g m t) h.0 (l, h.1, h.2)
+cause_of m t f l (inr h) = subst (λ (g : MatchFault). IsCause g m t) h.0 (l, h.1, h.2)
+
+-- what holds of the calls that end an argument
+pub end_means : (mid new : Matcher) (k : ℕ) (fed : Fed) (call : List Token) (x : EndsArgument mid new k fed) → mid.part < length mid.parts → mid.failed ≡ false → ((arg : List Token) → Gives x.raw arg → MatchesCall mid.long (take (mid.part + 1) mid.parts) call (mid.args ++ arg ∷ [])) → Means fed new call
+end_means mid new k fed call x l f c =
+    let m0 = c x.arg x.gives in
+    let m1 = subst (λ (n : ℕ). MatchesCall mid.long (take n mid.parts) call (mid.args ++ x.arg ∷ [])) (sym x.part_is) m0 in
+    let m2 = subst (λ (ps : List (List Token)). MatchesCall mid.long (take new.part ps) call (mid.args ++ x.arg ∷ [])) (sym x.parts_is) m1 in
+    let m3 = subst (λ (b : Bool). MatchesCall b (take new.part new.parts) call (mid.args ++ x.arg ∷ [])) (sym x.long_is) m2 in
+    let m4 = subst (λ (zs : List (List Token)). MatchesCall new.long (take new.part new.parts) call zs) (sym x.args_is) m3 in
+    let e : fed ≡ said_at new.part (length new.parts) = x.fed_is ∙ ap (λ n. said_at n (length mid.parts)) (sym x.part_is) ∙ ap (λ ps. said_at new.part (length ps)) (sym x.parts_is) in
+    subst (λ (g : Fed). Means g new call) (sym e)
+      (after_part new call (x.failed_is ∙ f) (omega (arith, x.part_is)) (omega (arith, x.part_is, ap length x.parts_is)) m4 x.read_is x.depth_is)
+
+-- two cuts of a text at the same place
+pub same_cut : (raw cut raw' cut' : List Token) → raw ++ cut ≡ raw' ++ cut' → length cut ≡ length cut' → raw ≡ raw'
+same_cut raw cut raw' cut' e l =
+    let n : length raw ≡ length raw' = omega (arith, ap length e, length-append raw cut, length-append raw' cut') in
+    sym (take_at raw cut (length raw) refl) ∙ ap (λ xs. take (length raw) xs) e ∙ take_at raw' cut' (length raw) (sym n)
+
+pub no_cut : (text raw cut : List Token) → text ≡ raw ++ cut → length cut ≡ 0 → raw ≡ text
+no_cut text raw cut e l = sym (append-nil raw) ∙ ap (λ xs. raw ++ xs) (sym (nil_from_length cut l)) ∙ sym e
+
+pub if_ok_each : (r : Result Fed AllocError) (P Q : Fed → Type 0) → ((x : Fed) → P x → Q x) → IfOk r P → IfOk r Q
+if_ok_each (Ok x) P Q h p = h x p
+if_ok_each (Err e) P Q h p = tt
+
+-- the text before the first parameter
+next_is : (read rest text : List Token) (t : Token) → text ≡ read ++ rest → slice_get text (length read) ≡ Some t → rest ≡ t ∷ drop 1 rest
+next_is read [] text t e h =
+    let l = slice_get_within text (length read) t h in
+    absurd (omega (arith, ap length e, length-append read []))
+next_is read (x ∷ rest) text t e h =
+    let r : get_or text (length read) t ≡ t = get_or_from_slice_get text (length read) t t h in
+    let q : x ≡ t = sym (get_or_at read x rest t (length read) refl) ∙ ap (λ xs. get_or xs (length read) t) (sym e) ∙ r in
+    ap (λ y. y ∷ rest) q
+
+pub text_more : (parts args : List (List Token)) (part : ℕ) (read : List Token) (depth : ℕ) (call : List Token) (t : Token) → InText parts args part read depth call → slice_get (get_or parts 0 []) (length read) ≡ Some t → InText parts args part (read ++ t ∷ []) depth (call ++ t ∷ [])
+text_more parts args part read depth call t h s =
+    let n = next_is read h.rest (get_or parts 0 []) t h.begins s in
+    record { first = h.first; no_args = h.no_args; flat = h.flat; same = ap (λ xs. xs ++ t ∷ []) h.same; rest = drop 1 h.rest;
+      begins = h.begins ∙ ap (λ xs. read ++ xs) n ∙ sym (append_assoc read (t ∷ []) (drop 1 h.rest)) }
+
+-- the text is over where it is no longer than what was read
+text_over : (read rest text : List Token) → text ≡ read ++ rest → length text ≤ length read → text ≡ read
+text_over read rest text e l =
+    let z : length rest ≡ 0 = omega (arith, ap length e, length-append read rest) in
+    e ∙ ap (λ xs. read ++ xs) (nil_from_length rest z) ∙ append-nil read
+
+pub text_matched : (parts : List (List Token)) (long : Bool) (args : List (List Token)) (part : ℕ) (read : List Token) (depth : ℕ) (call : List Token) → 0 < length parts → InText parts args part read depth call → length (get_or parts 0 []) ≤ length read → MatchesCall long (take 1 parts) call args
+text_matched parts long args part read depth call l h s =
+    let e : get_or parts 0 [] ≡ call = text_over read h.rest (get_or parts 0 []) h.begins s ∙ sym h.same in
+    subst (λ (zs : List (List Token)). MatchesCall long (take 1 parts) call zs) (sym h.no_args)
+      (subst (λ (c : List Token). MatchesCall long (take 1 parts) c []) e (text_end parts long l))
+
+pub not_next : (text read : List Token) (t : Token) → (slice_get text (length read) ≡ Some t → ⊥) → (rest : List Token) → text ≡ (read ++ t ∷ []) ++ rest → ⊥
+not_next text read t missing rest e =
+    let f : text ≡ read ++ t ∷ rest = e ∙ append_assoc read (t ∷ []) rest in
+    let l : length read < length text = omega (arith, ap length f, length-append read (t ∷ rest)) in
+    let g : get_or text (length read) t ≡ t = ap (λ xs. get_or xs (length read) t) f ∙ get_or_at read t rest t (length read) refl in
+    missing (slice_get-get_or text (length read) t l ∙ ap (λ x. let o : Option Token = Some x in o) g)
+
+-- a matcher that nothing was fed to
+starts_by : (part count : ℕ) (m : Matcher) (call : List Token) → Means (said_at part count) m call → IsAfter m call ⊎ IsWhole m call
+starts_by part count m call = elim (eqb part count) as (λ b. Means (cond b Done More) m call → IsAfter m call ⊎ IsWhole m call) [ true ↦ λ h. inr h | false ↦ λ h. inl h ]
+
+pub starts_past_text : (m : Matcher) (parts : List (List Token)) (long : Bool) → IsStart m parts long 1 → 0 < length parts → get_or parts 0 [] ≡ [] → IsAfter m [] ⊎ IsWhole m []
+starts_past_text m parts long s l e =
+    let m0 : MatchesCall long (take 1 parts) [] [] = subst (λ (c : List Token). MatchesCall long (take 1 parts) c []) e (text_end parts long l) in
+    let m1 = subst (λ (n : ℕ). MatchesCall long (take n parts) [] []) (sym s.part_is) m0 in
+    let m2 = subst (λ (ps : List (List Token)). MatchesCall long (take m.part ps) [] []) (sym s.parts_is) m1 in
+    let m3 = subst (λ (b : Bool). MatchesCall b (take m.part m.parts) [] []) (sym s.long_is) m2 in
+    let m4 = subst (λ (zs : List (List Token)). MatchesCall m.long (take m.part m.parts) [] zs) (sym s.args_is) m3 in
+    starts_by m.part (length m.parts) m [] (after_part m [] s.failed_is (omega (arith, s.part_is)) (omega (arith, s.part_is, ap length s.parts_is)) m4 s.read_is s.depth_is)
+
+pub starts_in_text : (m : Matcher) (parts : List (List Token)) (long : Bool) → IsStart m parts long 0 → 0 < length parts → IsAfter m [] ⊎ IsWhole m []
+starts_in_text m parts long s l =
+    inl (record { in_parts = omega (arith, s.part_is, ap length s.parts_is); not_failed = s.failed_is },
+      inl (record { first = s.part_is; no_args = s.args_is; flat = s.depth_is; same = sym s.read_is; rest = get_or m.parts 0 []; begins = ap (λ xs. xs ++ get_or m.parts 0 []) (sym s.read_is) }))
+
+pub means_by : (f g : Fed) (m : Matcher) (call : List Token) → f ≡ g → Means g m call → Means f m call
+means_by f g m call e h = subst (λ (x : Fed). Means x m call) (sym e) h

@@ -1,5 +1,5 @@
 -- What a turn says of its token.
-use Rattle.std.proofs.Common.{◌≡◌, ℕ, zero, suc, ◌<◌, ◌≤◌, ◌+◌, Bool, true, false, not, ◌&&◌, eqb, cond, Option, Some, None, Result, Ok, Err, refl, sym, ap, ◌∙◌, arith}
+use Rattle.std.proofs.Common.{◌≡◌, ℕ, zero, suc, ◌<◌, ◌≤◌, ◌+◌, Bool, true, false, not, ◌&&◌, eqb, cond, Option, Some, None, Result, Ok, Err, ◌⊎◌, inl, inr, refl, sym, ap, ◌∙◌, arith}
 use Rattle.std.proofs.lemmas.Bool.{false≢true, eqb-true}
 use Rattle.etx_matter.specs.declared.token.Token.{Token}
 use Rattle.etx_macros.specs.declared.argument.Turn.{Turn}
@@ -18,7 +18,11 @@ par_here : (long par : Bool) → (not long && par) ≡ true → (long ≡ false)
 par_here true par e = absurd cc
 par_here false par e = (refl, e)
 
-no_both : (a b : Bool) → (a && b) ≡ true → (a ≡ true) × (b ≡ true)
+no_space_at : (d : ℕ) (space : Bool) → (eqb d 0 && space) ≡ false → d ≡ 0 → space ≡ false
+no_space_at zero space e h = e
+no_space_at (suc n) space e h = absurd (omega arith)
+
+both : (a b : Bool) → (a && b) ≡ true → (a ≡ true) × (b ≡ true)
 both true b e = (refl, e)
 both false b e = absurd (false≢true e)
 
@@ -136,3 +140,46 @@ unfolding delimited_turn
 delimited_keep inside depth long t m e =
     let h = delimited_ok ((not long && is_par t) && not inside) (behind t depth) m e in
     (three long (is_par t) inside h.0, h.1)
+
+fault_shape : (s p : Bool) (o : Option ℕ) (f : MatchFault) → shape s p o ≡ turn.Fault f → ((ParagraphEnded ≡ f) × (p ≡ true)) ⊎ ((ExtraBrace ≡ f) × (o ≡ None))
+fault_shape true p o f e = absurd cc
+fault_shape false true o f e = inl (cc, refl)
+fault_shape false false None f e = inr (cc, refl)
+fault_shape false false (Some zero) f e = absurd cc
+fault_shape false false (Some (suc n)) f e = absurd cc
+
+delimited_err : (p : Bool) (o : Option ℕ) (f : MatchFault) → delimited_shape p o ≡ Err f → ((ParagraphEnded ≡ f) × (p ≡ true)) ⊎ ((ExtraBrace ≡ f) × (o ≡ None))
+delimited_err true o f e = inl (cc, refl)
+delimited_err false None f e = inr (cc, refl)
+delimited_err false (Some n) f e = absurd cc
+
+closed_none : (n : ℕ) → closed n ≡ None → n ≡ 0
+closed_none zero e = refl
+closed_none (suc n) e = absurd cc
+
+none_shape : (l r : Bool) (n : ℕ) → braces l r n ≡ None → (n ≡ 0) × (r ≡ true)
+none_shape true r n e = absurd cc
+none_shape false true n e = (closed_none n e, refl)
+none_shape false false n e = absurd cc
+
+pub closes_none : (t : Token) (n : ℕ) → behind t n ≡ None → (n ≡ 0) × (has_category t 2 ≡ true)
+unfolding behind
+closes_none t n e = none_shape (has_category t 1) (has_category t 2) n e
+
+-- why a token is a fault of an argument
+abbrev pub Faulty : MatchFault → ℕ → Bool → Token → Type 0
+Faulty f depth long t = ((ParagraphEnded ≡ f) × (long ≡ false) × (is_par t ≡ true)) ⊎ ((ExtraBrace ≡ f) × (depth ≡ 0) × (has_category t 2 ≡ true))
+
+pub undelimited_fault : (depth : ℕ) (long : Bool) (t : Token) (f : MatchFault) → undelimited_turn depth long t ≡ turn.Fault f → Faulty f depth long t
+unfolding undelimited_turn
+undelimited_fault depth long t f e =
+    elim (fault_shape (eqb depth 0 && is_space t) (not long && is_par t) (behind t depth) f e) [
+      inl h ↦ let p = par_here long (is_par t) h.1 in inl (h.0, p.0, p.1)
+    | inr h ↦ let b = closes_none t depth h.1 in inr (h.0, b.0, b.1) ]
+
+pub delimited_fault : (inside : Bool) (depth : ℕ) (long : Bool) (t : Token) (f : MatchFault) → delimited_turn inside depth long t ≡ Err f → Faulty f depth long t
+unfolding delimited_turn
+delimited_fault inside depth long t f e =
+    elim (delimited_err ((not long && is_par t) && not inside) (behind t depth) f e) [
+      inl h ↦ let p = three_here long (is_par t) inside h.1 in inl (h.0, p.0, p.1)
+    | inr h ↦ let b = closes_none t depth h.1 in inr (h.0, b.0, b.1) ]

@@ -101,3 +101,13 @@ Stands OutOfMemory m = m.failed ≡ true
 pub record KeepsPattern (m m' : Matcher) : Type 0 where
   pub parts_is : m'.parts ≡ m.parts
   pub long_is : m'.long ≡ m.long
+
+-- a matcher that begins with a part
+pub record IsStart (m : Matcher) (parts : List (List Token)) (long : Bool) (part : ℕ) : Type 0 where
+  pub parts_is : m.parts ≡ parts
+  pub long_is : m.long ≡ long
+  pub args_is : m.args ≡ []
+  pub part_is : m.part ≡ part
+  pub read_is : m.read ≡ []
+  pub depth_is : m.depth ≡ 0
+  pub failed_is : m.failed ≡ false

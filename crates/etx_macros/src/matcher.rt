@@ -30,13 +30,16 @@ pub struct Matcher {
 impl Matcher {
     ghost use Rattle.std.specs.Prelude.{◌≡◌, ◌<◌, ◌≤◌, ◌++◌, ◌∷◌, [], ◌↔◌, ◌⊎◌, IsTrue, IfOk, MatchBool, length, List, slice_index_or};
     ghost use Rattle.etx_matter.specs.declared.token.Token.{Token};
-    ghost use Rattle.etx_macros.specs.Progress.{IsGoing, IsDone, IsAfter, IsWhole, Means, HasCause, EndsArgument, GoesOn, Stands, KeepsPattern};
+    ghost use Rattle.etx_macros.specs.Progress.{IsGoing, IsDone, IsAfter, IsWhole, Means, HasCause, EndsArgument, GoesOn, Stands, KeepsPattern, IsStart};
+    ghost use Rattle.etx_macros.specs.Matching.{IsFound};
+    ghost use Rattle.etx_macros.specs.Calls.{EndsInside};
 
     /// Ends an argument, the last `delimiter` tokens of which are its delimiter.
     fn end_argument(&mut self, delimiter: usize) -> Result<Fed, AllocError>
         requires long_enough { delimiter ≤ length self.old.read }
         requires in_parts { self.old.part < length self.old.parts }
-        ensures { IfOk result (EndsArgument self.old self.new delimiter) }
+        ensures ends { IfOk result (EndsArgument self.old self.new delimiter) }
+        ensures keeps { KeepsPattern self.old self.new }
     {
         let count = self.parts.len();
         let read = self.read.as_slice();
@@ -46,6 +49,39 @@ impl Matcher {
         self.read = Tokens::new(self.alloc);
         self.depth = 0;
         Ok(said(self.part, count))
+    }
+
+    /// How many braces are open: no more than tokens were read.
+    fn open_braces(&self) -> usize
+        ensures depth { result ≡ self.now.depth }
+        ensures small { result ≤ 1073741824 }
+    {
+        self.depth.min(self.read.len())
+    }
+
+    /// The text of the part that is being matched.
+    fn delimiter(&self) -> &[Token]
+        requires { IsGoing self.now }
+        ensures same { result.now ≡ slice_index_or self.now.parts self.now.part [] }
+        ensures small { length result.now ≤ 1073741824 }
+    {
+        self.parts.as_slice()[self.part].as_slice()
+    }
+
+    /// Whether the delimiter ends what was read.
+    fn has_found(&self) -> bool
+        requires { IsGoing self.now }
+        ensures { IsTrue result ↔ IsFound (slice_index_or self.now.parts self.now.part []) self.now.read }
+    {
+        is_found(self.read.as_slice(), self.delimiter())
+    }
+
+    /// Whether the last token stands outside braces and may belong to the delimiter.
+    fn is_inside(&self) -> bool
+        requires { IsGoing self.now }
+        ensures { IsTrue result → (self.now.depth ≡ 0) × EndsInside self.now.read (slice_index_or self.now.parts self.now.part []) }
+    {
+        self.depth == 0 && ends_inside(self.read.as_slice(), self.delimiter())
     }
 
     /// A token of the text before the first parameter.
@@ -59,7 +95,7 @@ impl Matcher {
     {
         let count = self.parts.len();
         let at = self.read.len();
-        let text = self.parts.as_slice()[0].as_slice();
+        let text = self.delimiter();
         if !has_at(text, at, token) {
             return Ok(Fed::Fault(MatchFault::DoesNotMatch));
         }
@@ -84,7 +120,7 @@ impl Matcher {
         ensures goes { IfOk result (λ fed. GoesOn fed self.new) }
         ensures keeps { KeepsPattern self.old self.new }
     {
-        match undelimited_turn(self.depth, self.long, token) {
+        match undelimited_turn(self.open_braces(), self.long, token) {
             Turn::Skip => Ok(Fed::More),
             Turn::Fault(fault) => Ok(Fed::Fault(fault)),
             Turn::Keep(depth) => {
@@ -110,13 +146,11 @@ impl Matcher {
         ensures keeps { KeepsPattern self.old self.new }
     {
         self.read.push(token)?;
-        let delimiter = self.parts.as_slice()[self.part].as_slice();
-        if is_found(self.read.as_slice(), delimiter) {
-            let length = delimiter.len();
+        if self.has_found() {
+            let length = self.delimiter().len();
             return self.end_argument(length);
         }
-        let is_inside = self.depth == 0 && ends_inside(self.read.as_slice(), delimiter);
-        match delimited_turn(is_inside, self.depth, self.long, token) {
+        match delimited_turn(self.is_inside(), self.open_braces(), self.long, token) {
             Ok(depth) => {
                 self.depth = depth;
                 Ok(Fed::More)
@@ -150,8 +184,17 @@ impl Matcher {
         ensures long { IfOk result (λ m. m.long ≡ long) }
     {
         let parts = pattern.copied(alloc)?;
-        let part = usize::from(parts.as_slice()[0].is_empty());
-        Ok(Matcher {
+        if parts.as_slice()[0].is_empty() {
+            return Ok(Matcher::at_part(alloc, parts, long, 1));
+        }
+        Ok(Matcher::at_part(alloc, parts, long, 0))
+    }
+
+    /// A matcher that begins with a part.
+    fn at_part(alloc: Global, parts: Listed<Tokens>, long: bool, part: usize) -> Matcher
+        ensures { IsStart result parts long part }
+    {
+        Matcher {
             alloc,
             parts,
             long,
@@ -160,7 +203,7 @@ impl Matcher {
             read: Tokens::new(alloc),
             depth: 0,
             failed: false,
-        })
+        }
     }
 
     /// Whether more tokens are wanted.

@@ -6,8 +6,8 @@ use Rattle.etx_macros.specs.Calls.{Gives}
 use Rattle.etx_macros.specs.Matching.{said_at}
 use Rattle.etx_macros.proofs.matcher.Matcher.end_argument.Goals as goal
 
-pub returns : goal.returns
-returns c =
+pub returns-clause-ends : goal.returns-clause-ends
+returns-clause-ends c =
     let read : List Token = c.args.self.now.read in
     record {
       parts_is = refl; long_is = refl; failed_is = refl;
