@@ -19,11 +19,12 @@ last_one (x ∷ xs) = elim (last_one xs) [ inl e ↦ inr ([], x, ap (λ ys. x �
 -- a text that one more token makes is split behind its end, or before it
 pub split_push : (read : List Token) (t : Token) (front rest : List Token) → read ++ t ∷ [] ≡ front ++ rest → ((rest ≡ []) × (read ++ t ∷ [] ≡ front)) ⊎ ((more : List Token) × (read ≡ front ++ more) × (rest ≡ more ++ t ∷ []))
 split_push read t front rest e = elim (last_one rest) [
-    inl z ↦ inl (z, e ∙ ap (λ r. front ++ r) z ∙ append-nil front)
+  | inl z ↦ inl (z, e ∙ ap (λ r. front ++ r) z ∙ append-nil front)
   | inr w ↦
       let f : read ++ t ∷ [] ≡ (front ++ w.0) ++ w.1 ∷ [] = e ∙ ap (λ r. front ++ r) w.2 ∙ sym (append_assoc front w.0 (w.1 ∷ [])) in
       let g = same_from_push read (front ++ w.0) t w.1 f in
-      inr (w.0, g.0, w.2 ∙ ap (λ u. w.0 ++ u ∷ []) (sym g.1)) ]
+      inr (w.0, g.0, w.2 ∙ ap (λ u. w.0 ++ u ∷ []) (sym g.1))
+]
 
 nil_apart : (front rest : List Token) (u : Token) → [] ≡ front ++ u ∷ rest → ⊥
 nil_apart [] rest u e = cc
@@ -35,11 +36,12 @@ pars_nil long d = λ l front rest u e p. absurd (nil_apart front rest u e)
 pub pars_push : (long : Bool) (d read : List Token) (t : Token) → ParsAreAllowed long d read → (long ≡ false → is_par t ≡ true → (depth_of read ≡ Some 0) × EndsInside (read ++ t ∷ []) d) → ParsAreAllowed long d (read ++ t ∷ [])
 pars_push long d read t old here = λ l front rest u e p.
     elim (split_push read t (front ++ u ∷ []) rest (e ∙ sym (append_assoc front (u ∷ []) rest))) [
-      inl w ↦
-        let g = same_from_push read front t u w.1 in
-        let h = here l (ap is_par g.1 ∙ p) in
-        (sym (ap depth_of g.0) ∙ h.0, subst (λ (xs : List Token). EndsInside xs d) w.1 h.1)
-    | inr w ↦ old l front w.0 u (w.1 ∙ append_assoc front (u ∷ []) w.0) p ]
+      | inl w ↦
+          let g = same_from_push read front t u w.1 in
+          let h = here l (ap is_par g.1 ∙ p) in
+          (sym (ap depth_of g.0) ∙ h.0, subst (λ (xs : List Token). EndsInside xs d) w.1 h.1)
+      | inr w ↦ old l front w.0 u (w.1 ∙ append_assoc front (u ∷ []) w.0) p
+    ]
 
 pars_front : (long : Bool) (d text raw more : List Token) → ParsAreAllowed long d text → text ≡ raw ++ more → ParsAreAllowed long d raw
 pars_front long d text raw more old e = λ l front rest u f p. old l front (rest ++ more) u (e ∙ ap (λ xs. xs ++ more) f ∙ append_assoc front (u ∷ rest) more) p
@@ -62,16 +64,31 @@ bare_skip long read depth t (inr g) e = let z = skip_turn depth long t e in absu
 first_of_group : (long : Bool) (t : Token) (m : ℕ) → (long ≡ false → is_par t ≡ false) → behind t 0 ≡ Some m → 0 < m → InGroup long (t ∷ []) m
 first_of_group long t m p h l =
     let o = opens_group t m l h in
-    record { left = t; inner = []; deeper = 0; opens = o.0; read_is = refl; inside = refl; depth_is = o.1;
-      pars = pars_push long [] [] t (pars_nil long []) (no_par_here long (is_par t) ((depth_of [] ≡ Some 0) × EndsInside (t ∷ []) []) p) }
+    record {
+      left = t;
+      inner = [];
+      deeper = 0;
+      opens = o.0;
+      read_is = refl;
+      inside = refl;
+      depth_is = o.1;
+      pars = pars_push long [] [] t (pars_nil long []) (no_par_here long (is_par t) ((depth_of [] ≡ Some 0) × EndsInside (t ∷ []) []) p);
+    }
 
 more_of_group : (long : Bool) (read : List Token) (depth : ℕ) (t : Token) (m : ℕ) → InGroup long read depth → (long ≡ false → is_par t ≡ false) → behind t depth ≡ Some m → 0 < m → InGroup long (read ++ t ∷ []) m
 more_of_group long read depth t m g p h l =
     let n : m ≡ suc (m - 1) = omega arith in
     let k : behind t (suc g.deeper) ≡ Some (suc (m - 1)) = ap (λ d. behind t d) (sym g.depth_is) ∙ h ∙ ap (λ d. let o : Option ℕ = Some d in o) n in
-    record { left = g.left; inner = g.inner ++ t ∷ []; deeper = m - 1; opens = g.opens; read_is = ap (λ xs. xs ++ t ∷ []) g.read_is;
-      inside = depth_push g.inner t g.deeper (Some (m - 1)) g.inside (inside_group t g.deeper (m - 1) k); depth_is = n;
-      pars = pars_push long [] read t g.pars (no_par_here long (is_par t) ((depth_of read ≡ Some 0) × EndsInside (read ++ t ∷ []) []) p) }
+    record {
+      left = g.left;
+      inner = g.inner ++ t ∷ [];
+      deeper = m - 1;
+      opens = g.opens;
+      read_is = ap (λ xs. xs ++ t ∷ []) g.read_is;
+      inside = depth_push g.inner t g.deeper (Some (m - 1)) g.inside (inside_group t g.deeper (m - 1) k);
+      depth_is = n;
+      pars = pars_push long [] read t g.pars (no_par_here long (is_par t) ((depth_of read ≡ Some 0) × EndsInside (read ++ t ∷ []) []) p);
+    }
 
 pub bare_keep : (long : Bool) (read : List Token) (depth : ℕ) (t : Token) (m : ℕ) → Bare long read depth → undelimited_turn depth long t ≡ turn.Keep m → InGroup long (read ++ t ∷ []) m
 bare_keep long read depth t m (inl h) e =
@@ -91,34 +108,52 @@ pub bare_found : (long : Bool) (skipped read : List Token) (depth : ℕ) (t : To
 bare_found long skipped read depth t arg s (inl h) e gives =
     let k = found_turn depth long t e in
     let k0 : IsLast 0 long t = subst (λ (d : ℕ). IsLast d long t) h.1 k in
-    record { spaces = skipped; raw = read ++ t ∷ []; whole = refl; are_spaces = s;
+    record {
+      spaces = skipped;
+      raw = read ++ t ∷ [];
+      whole = refl;
+      are_spaces = s;
       item = inl (t, single_item long t k0, ap (λ xs. xs ++ t ∷ []) h.0);
       pars = pars_push long [] read t (subst (λ (xs : List Token). ParsAreAllowed long [] xs) (sym h.0) (pars_nil long [])) (no_par_here long (is_par t) ((depth_of read ≡ Some 0) × EndsInside (read ++ t ∷ []) []) k.no_par);
-      gives = gives }
+      gives = gives;
+    }
 bare_found long skipped read depth t arg s (inr g) e gives =
     let k = found_turn depth long t e in
-    record { spaces = skipped; raw = read ++ t ∷ []; whole = refl; are_spaces = s;
+    record {
+      spaces = skipped;
+      raw = read ++ t ∷ [];
+      whole = refl;
+      are_spaces = s;
       item = inr (g.inner, group_item long read depth t g k.closes);
       pars = pars_push long [] read t g.pars (no_par_here long (is_par t) ((depth_of read ≡ Some 0) × EndsInside (read ++ t ∷ []) []) k.no_par);
-      gives = gives }
+      gives = gives;
+    }
 
 -- delimited arguments
 pub delimited_found : (long : Bool) (d read : List Token) (depth : ℕ) (t : Token) (raw arg : List Token) → (d ≡ [] → ⊥) → InDelimited long d read depth → read ++ t ∷ [] ≡ raw ++ d → IsBalanced raw → Gives raw arg → IsDelimited long d (read ++ t ∷ []) arg
 delimited_found long d read depth t raw arg some g e b gives =
-    record { raw = raw; whole = e; balanced = b;
+    record {
+      raw = raw;
+      whole = e;
+      balanced = b;
       shortest = λ other rest f bo. elim (split_push read t (other ++ d) rest f) [
-          inl w ↦ let same : raw ≡ other = append_cancel_right raw other d (sym e ∙ w.1) in omega (arith, ap length same)
-        | inr w ↦ absurd (g.not_yet other w.0 w.1 bo) ];
+        | inl w ↦ let same : raw ≡ other = append_cancel_right raw other d (sym e ∙ w.1) in omega (arith, ap length same)
+        | inr w ↦ absurd (g.not_yet other w.0 w.1 bo)
+      ];
       pars = elim (split_push read t raw d e) [
-          inl w ↦ absurd (some w.0)
-        | inr w ↦ pars_front long d read raw w.0 g.pars w.1 ];
-      gives = gives }
+        | inl w ↦ absurd (some w.0)
+        | inr w ↦ pars_front long d read raw w.0 g.pars w.1
+      ];
+      gives = gives;
+    }
 
 pub delimited_more : (long : Bool) (d read : List Token) (depth : ℕ) (t : Token) (m : ℕ) → InDelimited long d read depth → (IsFound d (read ++ t ∷ []) → ⊥) → (long ≡ false → is_par t ≡ true → (depth ≡ 0) × EndsInside (read ++ t ∷ []) d) → behind t depth ≡ Some m → InDelimited long d (read ++ t ∷ []) m
 delimited_more long d read depth t m g never inside h =
-    record { depth_is = depth_push read t depth (Some m) g.depth_is h;
+    record {
+      depth_is = depth_push read t depth (Some m) g.depth_is h;
       not_yet = λ other rest e b. elim (split_push read t (other ++ d) rest e) [ inl w ↦ never (other, w.1, b) | inr w ↦ g.not_yet other w.0 w.1 b ];
-      pars = pars_push long d read t g.pars (λ l p. let i = inside l p in (g.depth_is ∙ ap (λ k. let o : Option ℕ = Some k in o) i.0, i.1)) }
+      pars = pars_push long d read t g.pars (λ l p. let i = inside l p in (g.depth_is ∙ ap (λ k. let o : Option ℕ = Some k in o) i.0, i.1));
+    }
 
 nil_not_delimited : (other rest : List Token) (t : Token) (ts : List Token) → [] ≡ (other ++ t ∷ ts) ++ rest → ⊥
 nil_not_delimited [] rest t ts e = cc

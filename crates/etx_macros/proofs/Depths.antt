@@ -15,10 +15,12 @@ pub behind_bound : (t : Token) (n m : ℕ) → behind t n ≡ Some m → m ≤ n
 unfolding behind
 behind_bound t n m =
     elim (has_category t 1) as (λ b. cond b (Some (suc n)) (cond (has_category t 2) (closed n) (Some n)) ≡ Some m → m ≤ n + 1) [
-      true ↦ λ e. let h : suc n ≡ m = cc in omega arith
-    | false ↦ elim (has_category t 2) as (λ b. cond b (closed n) (Some n) ≡ Some m → m ≤ n + 1) [
-        true ↦ λ e. closed_bound n m e
-      | false ↦ λ e. let h : n ≡ m = cc in omega arith ] ]
+      | true ↦ λ e. let h : suc n ≡ m = cc in omega arith
+      | false ↦ elim (has_category t 2) as (λ b. cond b (closed n) (Some n) ≡ Some m → m ≤ n + 1) [
+        | true ↦ λ e. closed_bound n m e
+        | false ↦ λ e. let h : n ≡ m = cc in omega arith
+      ]
+    ]
 
 pub behind_append : (o : Option ℕ) (xs ys : List Token) → behind_all o (xs ++ ys) ≡ behind_all (behind_all o xs) ys
 behind_append None xs [] = refl

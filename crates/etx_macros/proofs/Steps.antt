@@ -28,25 +28,34 @@ part_more parts part l = take_more parts part [] l
 matched_more : (parts : List (List Token)) (long : Bool) (args : List (List Token)) (part : ℕ) (read : List Token) (depth : ℕ) (call : List Token) (t : Token) (arg : List Token) (h : InArgument parts long args part read depth call) → part < length parts → IsArgument long (get_or parts part []) (h.skipped ++ (read ++ t ∷ [])) arg → MatchesCall long (take (part + 1) parts) (call ++ t ∷ []) (args ++ arg ∷ [])
 matched_more parts long args part read depth call t arg h l a =
     let w : call ++ t ∷ [] ≡ h.before ++ (h.skipped ++ (read ++ t ∷ [])) =
-      ap (λ xs. xs ++ t ∷ []) h.whole ∙ append_assoc h.before (h.skipped ++ read) (t ∷ []) ∙ ap (λ xs. h.before ++ xs) (append_assoc h.skipped read (t ∷ [])) in
+    ap (λ xs. xs ++ t ∷ []) h.whole ∙ append_assoc h.before (h.skipped ++ read) (t ∷ []) ∙ ap (λ xs. h.before ++ xs) (append_assoc h.skipped read (t ∷ [])) in
     let m = with_argument (take part parts) args h.before (get_or parts part []) (h.skipped ++ (read ++ t ∷ [])) arg h.matched a in
     subst (λ (c : List Token). MatchesCall long (take (part + 1) parts) c (args ++ arg ∷ [])) (sym w)
-      (subst (λ (ps : List (List Token)). MatchesCall long ps (h.before ++ (h.skipped ++ (read ++ t ∷ []))) (args ++ arg ∷ [])) (sym (part_more parts part l)) m)
+    (subst (λ (ps : List (List Token)). MatchesCall long ps (h.before ++ (h.skipped ++ (read ++ t ∷ []))) (args ++ arg ∷ [])) (sym (part_more parts part l)) m)
 
 -- where a part is over, the call is complete, or an argument begins
 pub after_part : (m : Matcher) (call : List Token) → m.failed ≡ false → 0 < m.part → m.part ≤ length m.parts → MatchesCall m.long (take m.part m.parts) call m.args → m.read ≡ [] → m.depth ≡ 0 → Means (said_at m.part (length m.parts)) m call
 after_part m call f p l c r d =
     elim (eqb m.part (length m.parts)) as (λ b. eqb m.part (length m.parts) ≡ b → Means (cond b Done More) m call) [
-      true ↦ λ e.
-        let n : m.part ≡ length m.parts = eqb-true m.part (length m.parts) e in
-        (record { at_end = n; not_failed = f },
-         subst (λ (ps : List (List Token)). MatchesCall m.long ps call m.args) (take_all m.part m.parts (omega arith)) c)
-    | false ↦ λ e.
-        let n : m.part ≡ length m.parts → ⊥ = eqb-false m.part (length m.parts) e in
-        (record { in_parts = omega arith; not_failed = f },
-         inr (record { past_text = p; before = call; matched = c; skipped = []; whole = sym (append-nil call) ∙ ap (λ xs. call ++ xs) (sym r);
-           within = subst (λ (xs : List Token). Within m.long (get_or m.parts m.part []) [] xs m.depth) (sym r)
-             (subst (λ (n : ℕ). Within m.long (get_or m.parts m.part []) [] [] n) (sym d) (within_start m.long (get_or m.parts m.part []))) })) ] refl
+      | true ↦ λ e.
+          let n : m.part ≡ length m.parts = eqb-true m.part (length m.parts) e in (
+            record { at_end = n; not_failed = f },
+            subst (λ (ps : List (List Token)). MatchesCall m.long ps call m.args) (take_all m.part m.parts (omega arith)) c,
+          )
+      | false ↦ λ e.
+          let n : m.part ≡ length m.parts → ⊥ = eqb-false m.part (length m.parts) e in (
+            record { in_parts = omega arith; not_failed = f },
+            inr (record {
+              past_text = p;
+              before = call;
+              matched = c;
+              skipped = [];
+              whole = sym (append-nil call) ∙ ap (λ xs. call ++ xs) (sym r);
+              within = subst (λ (xs : List Token). Within m.long (get_or m.parts m.part []) [] xs m.depth) (sym r)
+                  (subst (λ (n : ℕ). Within m.long (get_or m.parts m.part []) [] [] n) (sym d) (within_start m.long (get_or m.parts m.part [])));
+            }),
+          )
+    ] refl
 
 -- what the two kinds of arguments say of what was read
 bare_within : (long : Bool) (d skipped read : List Token) (depth : ℕ) → d ≡ [] → Within long d skipped read depth → Within long [] skipped read depth
@@ -70,19 +79,29 @@ argument_delimited long (x ∷ xs) text arg never a = a
 -- one token more was read
 kept : (parts : List (List Token)) (long : Bool) (args : List (List Token)) (part : ℕ) (read : List Token) (depth : ℕ) (call : List Token) (t : Token) (m : ℕ) (h : InArgument parts long args part read depth call) → Within long (get_or parts part []) h.skipped (read ++ t ∷ []) m → InArgument parts long args part (read ++ t ∷ []) m (call ++ t ∷ [])
 kept parts long args part read depth call t m h w =
-    record { past_text = h.past_text; before = h.before; matched = h.matched; skipped = h.skipped;
+    record {
+      past_text = h.past_text;
+      before = h.before;
+      matched = h.matched;
+      skipped = h.skipped;
       whole = ap (λ xs. xs ++ t ∷ []) h.whole ∙ append_assoc h.before (h.skipped ++ read) (t ∷ []) ∙ ap (λ xs. h.before ++ xs) (append_assoc h.skipped read (t ∷ []));
-      within = w }
+      within = w;
+    }
 
 module _ (parts : List (List Token)) (long : Bool) (args : List (List Token)) (part : ℕ) (read : List Token) (depth : ℕ) (call : List Token) (t : Token) where
   pub undelimited_skip : get_or parts part [] ≡ [] → InArgument parts long args part read depth call → undelimited_turn depth long t ≡ turn.Skip → InArgument parts long args part read depth (call ++ t ∷ [])
   undelimited_skip e h u =
       let w = bare_within long (get_or parts part []) h.skipped read depth e h.within in
       let s = bare_skip long read depth t w.1 u in
-      record { past_text = h.past_text; before = h.before; matched = h.matched; skipped = h.skipped ++ t ∷ [];
+      record {
+        past_text = h.past_text;
+        before = h.before;
+        matched = h.matched;
+        skipped = h.skipped ++ t ∷ [];
         whole = ap (λ xs. xs ++ t ∷ []) (h.whole ∙ ap (λ xs. h.before ++ (h.skipped ++ xs)) s.0 ∙ ap (λ xs. h.before ++ xs) (append-nil h.skipped))
-          ∙ append_assoc h.before h.skipped (t ∷ []) ∙ ap (λ xs. h.before ++ xs) (sym (append-nil (h.skipped ++ t ∷ [])) ∙ ap (λ xs. (h.skipped ++ t ∷ []) ++ xs) (sym s.0));
-        within = within_bare long (get_or parts part []) (h.skipped ++ t ∷ []) read depth e (spaces_push h.skipped t w.0 s.1, w.1) }
+            ∙ append_assoc h.before h.skipped (t ∷ []) ∙ ap (λ xs. h.before ++ xs) (sym (append-nil (h.skipped ++ t ∷ [])) ∙ ap (λ xs. (h.skipped ++ t ∷ []) ++ xs) (sym s.0));
+        within = within_bare long (get_or parts part []) (h.skipped ++ t ∷ []) read depth e (spaces_push h.skipped t w.0 s.1, w.1);
+      }
 
   pub undelimited_keep : (m : ℕ) → get_or parts part [] ≡ [] → InArgument parts long args part read depth call → undelimited_turn depth long t ≡ turn.Keep m → InArgument parts long args part (read ++ t ∷ []) m (call ++ t ∷ [])
   undelimited_keep m e h u =
@@ -93,7 +112,7 @@ module _ (parts : List (List Token)) (long : Bool) (args : List (List Token)) (p
   undelimited_end arg l e h u gives =
       let w = bare_within long (get_or parts part []) h.skipped read depth e h.within in
       matched_more parts long args part read depth call t arg h l
-        (subst (λ (d : List Token). IsArgument long d (h.skipped ++ (read ++ t ∷ [])) arg) (sym e) (bare_found long h.skipped read depth t arg w.0 w.1 u gives))
+      (subst (λ (d : List Token). IsArgument long d (h.skipped ++ (read ++ t ∷ [])) arg) (sym e) (bare_found long h.skipped read depth t arg w.0 w.1 u gives))
 
   pub delimited_keep : (m : ℕ) → (get_or parts part [] ≡ [] → ⊥) → InArgument parts long args part read depth call → (IsFound (get_or parts part []) (read ++ t ∷ []) → ⊥) → (long ≡ false → is_par t ≡ true → (depth ≡ 0) × EndsInside (read ++ t ∷ []) (get_or parts part [])) → behind t depth ≡ Some m → InArgument parts long args part (read ++ t ∷ []) m (call ++ t ∷ [])
   delimited_keep m some h never inside b =
@@ -105,7 +124,7 @@ module _ (parts : List (List Token)) (long : Bool) (args : List (List Token)) (p
       let w = delimited_within long (get_or parts part []) h.skipped read depth some h.within in
       let a = argument_delimited long (get_or parts part []) (read ++ t ∷ []) arg some (delimited_found long (get_or parts part []) read depth t raw arg some w.1 f b gives) in
       matched_more parts long args part read depth call t arg h l
-        (subst (λ (xs : List Token). IsArgument long (get_or parts part []) (xs ++ (read ++ t ∷ [])) arg) (sym w.0) a)
+      (subst (λ (xs : List Token). IsArgument long (get_or parts part []) (xs ++ (read ++ t ∷ [])) arg) (sym w.0) a)
 
 -- the text before the first parameter is over
 pub text_end : (parts : List (List Token)) (long : Bool) → 0 < length parts → MatchesCall long (take 1 parts) (get_or parts 0 []) []
@@ -134,7 +153,7 @@ end_means mid new k fed call x l f c =
     let m4 = subst (λ (zs : List (List Token)). MatchesCall new.long (take new.part new.parts) call zs) (sym x.args_is) m3 in
     let e : fed ≡ said_at new.part (length new.parts) = x.fed_is ∙ ap (λ n. said_at n (length mid.parts)) (sym x.part_is) ∙ ap (λ ps. said_at new.part (length ps)) (sym x.parts_is) in
     subst (λ (g : Fed). Means g new call) (sym e)
-      (after_part new call (x.failed_is ∙ f) (omega (arith, x.part_is)) (omega (arith, x.part_is, ap length x.parts_is)) m4 x.read_is x.depth_is)
+    (after_part new call (x.failed_is ∙ f) (omega (arith, x.part_is)) (omega (arith, x.part_is, ap length x.parts_is)) m4 x.read_is x.depth_is)
 
 -- two cuts of a text at the same place
 pub same_cut : (raw cut raw' cut' : List Token) → raw ++ cut ≡ raw' ++ cut' → length cut ≡ length cut' → raw ≡ raw'
@@ -162,8 +181,14 @@ next_is read (x ∷ rest) text t e h =
 pub text_more : (parts args : List (List Token)) (part : ℕ) (read : List Token) (depth : ℕ) (call : List Token) (t : Token) → InText parts args part read depth call → slice_get (get_or parts 0 []) (length read) ≡ Some t → InText parts args part (read ++ t ∷ []) depth (call ++ t ∷ [])
 text_more parts args part read depth call t h s =
     let n = next_is read h.rest (get_or parts 0 []) t h.begins s in
-    record { first = h.first; no_args = h.no_args; flat = h.flat; same = ap (λ xs. xs ++ t ∷ []) h.same; rest = drop 1 h.rest;
-      begins = h.begins ∙ ap (λ xs. read ++ xs) n ∙ sym (append_assoc read (t ∷ []) (drop 1 h.rest)) }
+    record {
+      first = h.first;
+      no_args = h.no_args;
+      flat = h.flat;
+      same = ap (λ xs. xs ++ t ∷ []) h.same;
+      rest = drop 1 h.rest;
+      begins = h.begins ∙ ap (λ xs. read ++ xs) n ∙ sym (append_assoc read (t ∷ []) (drop 1 h.rest));
+    }
 
 -- the text is over where it is no longer than what was read
 text_over : (read rest text : List Token) → text ≡ read ++ rest → length text ≤ length read → text ≡ read
@@ -175,7 +200,7 @@ pub text_matched : (parts : List (List Token)) (long : Bool) (args : List (List 
 text_matched parts long args part read depth call l h s =
     let e : get_or parts 0 [] ≡ call = text_over read h.rest (get_or parts 0 []) h.begins s ∙ sym h.same in
     subst (λ (zs : List (List Token)). MatchesCall long (take 1 parts) call zs) (sym h.no_args)
-      (subst (λ (c : List Token). MatchesCall long (take 1 parts) c []) e (text_end parts long l))
+    (subst (λ (c : List Token). MatchesCall long (take 1 parts) c []) e (text_end parts long l))
 
 pub not_next : (text read : List Token) (t : Token) → (slice_get text (length read) ≡ Some t → ⊥) → (rest : List Token) → text ≡ (read ++ t ∷ []) ++ rest → ⊥
 not_next text read t missing rest e =
@@ -199,8 +224,10 @@ starts_past_text m parts long s l e =
 
 pub starts_in_text : (m : Matcher) (parts : List (List Token)) (long : Bool) → IsStart m parts long 0 → 0 < length parts → IsAfter m [] ⊎ IsWhole m []
 starts_in_text m parts long s l =
-    inl (record { in_parts = omega (arith, s.part_is, ap length s.parts_is); not_failed = s.failed_is },
-      inl (record { first = s.part_is; no_args = s.args_is; flat = s.depth_is; same = sym s.read_is; rest = get_or m.parts 0 []; begins = ap (λ xs. xs ++ get_or m.parts 0 []) (sym s.read_is) }))
+    inl (
+      record { in_parts = omega (arith, s.part_is, ap length s.parts_is); not_failed = s.failed_is },
+      inl (record { first = s.part_is; no_args = s.args_is; flat = s.depth_is; same = sym s.read_is; rest = get_or m.parts 0 []; begins = ap (λ xs. xs ++ get_or m.parts 0 []) (sym s.read_is) }),
+    )
 
 pub means_by : (f g : Fed) (m : Matcher) (call : List Token) → f ≡ g → Means g m call → Means f m call
 means_by f g m call e h = subst (λ (x : Fed). Means x m call) (sym e) h

@@ -14,8 +14,9 @@ use Rattle.etx_macros.specs.ParameterText.{IsFaultOf, Split, split, Parts, parts
 numbered_by : (n : ℕ) (t u : Token) (rest : List Token) → numbered n u (parts_of (suc n) rest) ≡ parts_by n (t ∷ u ∷ rest) (number_of n u)
 numbered_by n t u rest =
     elim (eqb n 9) as (λ b. cond b (Err TooManyParameters) (cond (is_digit (suc n) u) (with_part (parts_of (suc n) rest)) (Err BadNumber)) ≡ parts_by n (t ∷ u ∷ rest) (cond b (Err TooManyParameters) (cond (is_digit (suc n) u) (Ok Parameter) (Err BadNumber)))) [
-      true ↦ refl
-    | false ↦ elim (is_digit (suc n) u) as (λ d. cond d (with_part (parts_of (suc n) rest)) (Err BadNumber) ≡ parts_by n (t ∷ u ∷ rest) (cond d (Ok Parameter) (Err BadNumber))) [ true ↦ refl | false ↦ refl ] ]
+      | true ↦ refl
+      | false ↦ elim (is_digit (suc n) u) as (λ d. cond d (with_part (parts_of (suc n) rest)) (Err BadNumber) ≡ parts_by n (t ∷ u ∷ rest) (cond d (Ok Parameter) (Err BadNumber))) [ true ↦ refl | false ↦ refl ]
+    ]
 
 last_by : (n : ℕ) (t u : Token) → cond (has_category u 1) (Ok (split (u ∷ []) [])) (numbered n u (parts_of (suc n) [])) ≡ parts_by n (t ∷ u ∷ []) (last_of n u)
 unfolding parts_of
@@ -43,8 +44,9 @@ room_for_next n (t ∷ []) l =
     elim (has_category t 6) as (λ b. IfOk (cond b (Err (wrong_number n)) (Ok (Text t))) (HasRoom n (t ∷ []))) [ true ↦ tt | false ↦ omega arith ]
 room_for_next n (t ∷ u ∷ []) l =
     elim (has_category t 6) as (λ b. IfOk (cond b (last_of n u) (Ok (Text t))) (HasRoom n (t ∷ u ∷ []))) [
-      true ↦ elim (has_category u 1) as (λ b. IfOk (cond b (Ok (Brace u)) (number_of n u)) (HasRoom n (t ∷ u ∷ []))) [ true ↦ omega arith | false ↦ number_room n t u [] l ]
-    | false ↦ omega arith ]
+      | true ↦ elim (has_category u 1) as (λ b. IfOk (cond b (Ok (Brace u)) (number_of n u)) (HasRoom n (t ∷ u ∷ []))) [ true ↦ omega arith | false ↦ number_room n t u [] l ]
+      | false ↦ omega arith
+    ]
 room_for_next n (t ∷ u ∷ v ∷ rest) l =
     elim (has_category t 6) as (λ b. IfOk (cond b (number_of n u) (Ok (Text t))) (HasRoom n (t ∷ u ∷ v ∷ rest))) [ true ↦ number_room n t u (v ∷ rest) l | false ↦ omega arith ]
 
@@ -86,7 +88,8 @@ read_token params parts part at t h e =
     record {
       in_text = omega (arith, length-drop at params, r);
       few = h.few;
-      same = stands params parts part at (Ok (Text t)) h e ∙ ap (λ xs. joined parts part (with_token t (parts_of (length parts) xs))) (drop-drop 1 at params) ∙ joined_token parts part t _ }
+      same = stands params parts part at (Ok (Text t)) h e ∙ ap (λ xs. joined parts part (with_token t (parts_of (length parts) xs))) (drop-drop 1 at params) ∙ joined_token parts part t _;
+    }
 
 pub read_brace : (params : List Token) (parts : List (List Token)) (part : List Token) (at : ℕ) (t : Token) → IsRead params parts part at → next_of (length parts) (drop at params) ≡ Ok (Brace t) → IsRead params parts (part ++ t ∷ []) (at + 2)
 read_brace params parts part at t h e =
@@ -94,7 +97,8 @@ read_brace params parts part at t h e =
     record {
       in_text = omega (arith, length-drop at params, r);
       few = h.few;
-      same = stands params parts part at (Ok (Brace t)) h e ∙ ap (λ xs. joined parts part (with_token t (parts_of (length parts) xs))) (drop-drop 2 at params) ∙ joined_token parts part t _ }
+      same = stands params parts part at (Ok (Brace t)) h e ∙ ap (λ xs. joined parts part (with_token t (parts_of (length parts) xs))) (drop-drop 2 at params) ∙ joined_token parts part t _;
+    }
 
 pub read_parameter : (params : List Token) (parts : List (List Token)) (part : List Token) (at : ℕ) → IsRead params parts part at → next_of (length parts) (drop at params) ≡ Ok Parameter → IsRead params (parts ++ part ∷ []) [] (at + 2)
 read_parameter params parts part at h e =
@@ -103,7 +107,8 @@ read_parameter params parts part at h e =
     record {
       in_text = omega (arith, length-drop at params, r.0);
       few = omega (arith, more, r.1);
-      same = stands params parts part at (Ok Parameter) h e ∙ ap (λ xs. joined parts part (with_part (parts_of (suc (length parts)) xs))) (drop-drop 2 at params) ∙ joined_part parts part _ ∙ ap (λ n. joined (parts ++ part ∷ []) [] (parts_of n (drop (at + 2) params))) (sym more) }
+      same = stands params parts part at (Ok Parameter) h e ∙ ap (λ xs. joined parts part (with_part (parts_of (suc (length parts)) xs))) (drop-drop 2 at params) ∙ joined_part parts part _ ∙ ap (λ n. joined (parts ++ part ∷ []) [] (parts_of n (drop (at + 2) params))) (sym more);
+    }
 
 pub fault_of : (params : List Token) (fault : PatternFault) → pattern_of params ≡ Err fault → IsFaultOf fault params
 fault_of params BadNumber e = e

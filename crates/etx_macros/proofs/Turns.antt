@@ -174,12 +174,14 @@ pub undelimited_fault : (depth : ℕ) (long : Bool) (t : Token) (f : MatchFault)
 unfolding undelimited_turn
 undelimited_fault depth long t f e =
     elim (fault_shape (eqb depth 0 && is_space t) (not long && is_par t) (behind t depth) f e) [
-      inl h ↦ let p = par_here long (is_par t) h.1 in inl (h.0, p.0, p.1)
-    | inr h ↦ let b = closes_none t depth h.1 in inr (h.0, b.0, b.1) ]
+      | inl h ↦ let p = par_here long (is_par t) h.1 in inl (h.0, p.0, p.1)
+      | inr h ↦ let b = closes_none t depth h.1 in inr (h.0, b.0, b.1)
+    ]
 
 pub delimited_fault : (inside : Bool) (depth : ℕ) (long : Bool) (t : Token) (f : MatchFault) → delimited_turn inside depth long t ≡ Err f → Faulty f depth long t
 unfolding delimited_turn
 delimited_fault inside depth long t f e =
     elim (delimited_err ((not long && is_par t) && not inside) (behind t depth) f e) [
-      inl h ↦ let p = three_here long (is_par t) inside h.1 in inl (h.0, p.0, p.1)
-    | inr h ↦ let b = closes_none t depth h.1 in inr (h.0, b.0, b.1) ]
+      | inl h ↦ let p = three_here long (is_par t) inside h.1 in inl (h.0, p.0, p.1)
+      | inr h ↦ let b = closes_none t depth h.1 in inr (h.0, b.0, b.1)
+    ]

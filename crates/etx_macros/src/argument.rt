@@ -95,7 +95,12 @@ pub fn undelimited_turn(depth: usize, long: bool, token: Token) -> Turn
 /// How many braces are open behind a token of a delimited argument that it doesn't end. `is_inside`: the token stands
 /// outside braces, and the text up to it ends with a beginning of the delimiter.
 #[tactic(auto, unfolding(crate::specs::Matching::delimited_turn))]
-pub fn delimited_turn(is_inside: bool, depth: usize, long: bool, token: Token) -> Result<usize, MatchFault>
+pub fn delimited_turn(
+    is_inside: bool,
+    depth: usize,
+    long: bool,
+    token: Token,
+) -> Result<usize, MatchFault>
     requires { depth ≤ 1073741824 }
     ensures { result ≡ delimited_turn is_inside depth long token }
 {

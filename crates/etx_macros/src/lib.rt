@@ -10,6 +10,8 @@ mod fault;
 mod mark;
 mod matcher;
 mod pattern;
+#[cfg(test)]
+mod tests;
 
 pub use fault::{Fed, MatchFault};
 pub use matcher::Matcher;

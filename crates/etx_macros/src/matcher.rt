@@ -1,7 +1,9 @@
 // The match of a call, token by token.
 ghost use Rattle.std.specs.Prelude.{◌≤◌, length};
 
-use crate::argument::{Turn, delimited_turn, ends_inside, has_at, is_found, said, undelimited_turn, unwrapped};
+use crate::argument::{
+    Turn, delimited_turn, ends_inside, has_at, is_found, said, undelimited_turn, unwrapped,
+};
 use crate::fault::{Fed, MatchFault};
 use crate::pattern::Pattern;
 use etx_lists::Listed;

@@ -7,8 +7,9 @@ use Rattle.etx_macros.proofs.mark.is_balanced.Goals as goal
 
 pub loop-token-preserved : goal.loop-token-preserved
 loop-token-preserved c =
-    let h : behind (get_or c.args.text.now c.loop-token.token-index (Char 0 0)) c.loop-token.depth ≡ Some c.in-Some.next = sym c.behind.ensures ∙ c.in-Some.is in
-    (omega (arith, behind_bound _ _ _ h, c.loop-token.invariant.0),
-     sym (ap (λ o. behind_all o (drop (c.loop-token.token-index + 1) c.args.text.now)) h)
-     ∙ sym (at_drop_more (behind_all (Some c.loop-token.depth)) c.args.text.now c.loop-token.token-index (Char 0 0) c.loop-token-test.true)
-     ∙ c.loop-token.invariant.1)
+    let h : behind (get_or c.args.text.now c.loop-token.token-index (Char 0 0)) c.loop-token.depth ≡ Some c.in-Some.next = sym c.behind.ensures ∙ c.in-Some.is in (
+      omega (arith, behind_bound _ _ _ h, c.loop-token.invariant.0),
+      sym (ap (λ o. behind_all o (drop (c.loop-token.token-index + 1) c.args.text.now)) h)
+          ∙ sym (at_drop_more (behind_all (Some c.loop-token.depth)) c.args.text.now c.loop-token.token-index (Char 0 0) c.loop-token-test.true)
+          ∙ c.loop-token.invariant.1,
+    )

@@ -10,4 +10,4 @@ returns-then-is_empty-clause-starts c =
     let x = c.index-as_slice-0.result in
     let i : x ≡ get_or c.in_ok-parts.parts 0 x = c.index-as_slice-0.is ∙ ap (λ xs. get_or xs 0 x) c.as_slice.ensures.same in
     starts_past_text c.at_part.result c.in_ok-parts.parts c.args.long c.at_part.ensures l
-      (sym (get_or_read c.in_ok-parts.parts 0 x l i []) ∙ c.is_empty.ensures.0 c.if-is_empty.true)
+    (sym (get_or_read c.in_ok-parts.parts 0 x l i []) ∙ c.is_empty.ensures.0 c.if-is_empty.true)
