@@ -3,3 +3,4 @@ pub mod Depths
 pub mod Steps
 pub mod Texts
 pub mod Turns
+pub mod Unique

@@ -15,7 +15,7 @@ use Rattle.etx_macros.specs.Marks.{has_category, is_space, is_par, behind, depth
 use Rattle.etx_macros.specs.Calls.{Gives, EndsInside, ParsAreAllowed, AreSpaces, IsUndelimited, IsDelimited, IsArgument, MatchesCall, text_before, with_argument}
 use Rattle.etx_macros.specs.Matching.{said_at, IsFound, undelimited_turn, delimited_turn}
 use Rattle.etx_macros.specs.Within.{InGroup, InDelimited, Within}
-use Rattle.etx_macros.specs.Progress.{InText, InArgument, IsGoing, IsDone, IsAfter, IsWhole, Means, IsCause, EndsArgument, IsStart}
+use Rattle.etx_macros.specs.Progress.{InText, InArgument, IsGoing, IsDone, IsAfter, IsWhole, Means, IsCause, IsAbsorbed, IsUnfound, EndsArgument, IsStart}
 use Rattle.etx_macros.specs.declared.fault.MatchFault.{MatchFault}
 use Rattle.etx_macros.specs.declared.fault.MatchFault.TheVariants.{DoesNotMatch, ParagraphEnded, ExtraBrace}
 use Rattle.etx_macros.proofs.Turns.{Faulty}
@@ -139,9 +139,13 @@ pub in_text : (parts : List (List Token)) (long : Bool) (args : List (List Token
 in_text parts long args part read depth call l (inl x) = x
 in_text parts long args part read depth call l (inr x) = absurd (omega (arith, x.past_text))
 
-pub cause_of : (m : Matcher) (t : Token) (f : MatchFault) → 0 < m.part → Faulty f m.depth m.long t → IsCause f m t
-cause_of m t f l (inl h) = subst (λ (g : MatchFault). IsCause g m t) h.0 (l, h.1, h.2)
-cause_of m t f l (inr h) = subst (λ (g : MatchFault). IsCause g m t) h.0 (l, h.1, h.2)
+pub cause_of : (m : Matcher) (t : Token) (f : MatchFault) (free : Type 0) → 0 < m.part → IsUnfound m t → (free → IsAbsorbed m t → ⊥) → Faulty f m.depth m.long t free → IsCause f m t
+cause_of m t f free l u a (inl h) = subst (λ (g : MatchFault). IsCause g m t) h.0 (l, u, h.1, h.2, a h.3)
+cause_of m t f free l u a (inr h) = subst (λ (g : MatchFault). IsCause g m t) h.0 (l, u, h.1, h.2)
+
+-- an undelimited argument has no delimiter that could absorb a token
+pub not_absorbed : (m : Matcher) (t : Token) → get_or m.parts m.part [] ≡ [] → IsAbsorbed m t → ⊥
+not_absorbed m t e a = let l = a.1.1 in omega (arith, ap length e, l)
 
 -- what holds of the calls that end an argument
 pub end_means : (mid new : Matcher) (k : ℕ) (fed : Fed) (call : List Token) (x : EndsArgument mid new k fed) → mid.part < length mid.parts → mid.failed ≡ false → ((arg : List Token) → Gives x.raw arg → MatchesCall mid.long (take (mid.part + 1) mid.parts) call (mid.args ++ arg ∷ [])) → Means fed new call

@@ -122,9 +122,10 @@ three false true true e h p = refl
 three false true false e h p = absurd cc
 three false false inside e h p = absurd cc
 
-three_here : (long par inside : Bool) → ((not long && par) && not inside) ≡ true → (long ≡ false) × (par ≡ true)
+three_here : (long par inside : Bool) → ((not long && par) && not inside) ≡ true → (long ≡ false) × (par ≡ true) × (inside ≡ false)
 three_here true par inside e = absurd cc
-three_here false true inside e = (refl, refl)
+three_here false true true e = absurd cc
+three_here false true false e = (refl, refl, refl)
 three_here false false inside e = absurd cc
 
 abbrev delimited_shape : Bool → Option ℕ → Result ℕ MatchFault
@@ -166,22 +167,20 @@ pub closes_none : (t : Token) (n : ℕ) → behind t n ≡ None → (n ≡ 0) ×
 unfolding behind
 closes_none t n e = none_shape (has_category t 1) (has_category t 2) n e
 
--- why a token is a fault of an argument
-abbrev pub Faulty : MatchFault → ℕ → Bool → Token → Type 0
-Faulty f depth long t = ((ParagraphEnded ≡ f) × (long ≡ false) × (is_par t ≡ true)) ⊎ ((ExtraBrace ≡ f) × (depth ≡ 0) × (has_category t 2 ≡ true))
+-- why a token is a fault of an argument; free: what more is known of a `\par`
+abbrev pub Faulty : MatchFault → ℕ → Bool → Token → Type 0 → Type 0
+Faulty f depth long t free = ((ParagraphEnded ≡ f) × (long ≡ false) × (is_par t ≡ true) × free) ⊎ ((ExtraBrace ≡ f) × (depth ≡ 0) × (has_category t 2 ≡ true))
 
-pub undelimited_fault : (depth : ℕ) (long : Bool) (t : Token) (f : MatchFault) → undelimited_turn depth long t ≡ turn.Fault f → Faulty f depth long t
+pub undelimited_fault : (depth : ℕ) (long : Bool) (t : Token) (f : MatchFault) → undelimited_turn depth long t ≡ turn.Fault f → Faulty f depth long t (Unit {0})
 unfolding undelimited_turn
 undelimited_fault depth long t f e =
     elim (fault_shape (eqb depth 0 && is_space t) (not long && is_par t) (behind t depth) f e) [
-      | inl h ↦ let p = par_here long (is_par t) h.1 in inl (h.0, p.0, p.1)
-      | inr h ↦ let b = closes_none t depth h.1 in inr (h.0, b.0, b.1)
-    ]
+      inl h ↦ let p = par_here long (is_par t) h.1 in inl (h.0, p.0, p.1, tt)
+    | inr h ↦ let b = closes_none t depth h.1 in inr (h.0, b.0, b.1) ]
 
-pub delimited_fault : (inside : Bool) (depth : ℕ) (long : Bool) (t : Token) (f : MatchFault) → delimited_turn inside depth long t ≡ Err f → Faulty f depth long t
+pub delimited_fault : (inside : Bool) (depth : ℕ) (long : Bool) (t : Token) (f : MatchFault) → delimited_turn inside depth long t ≡ Err f → Faulty f depth long t (inside ≡ false)
 unfolding delimited_turn
 delimited_fault inside depth long t f e =
     elim (delimited_err ((not long && is_par t) && not inside) (behind t depth) f e) [
-      | inl h ↦ let p = three_here long (is_par t) inside h.1 in inl (h.0, p.0, p.1)
-      | inr h ↦ let b = closes_none t depth h.1 in inr (h.0, b.0, b.1)
-    ]
+      inl h ↦ let p = three_here long (is_par t) inside h.1 in inl (h.0, p.0, p.1, p.2)
+    | inr h ↦ let b = closes_none t depth h.1 in inr (h.0, b.0, b.1) ]

@@ -7,8 +7,8 @@ use Rattle.etx_macros.specs.declared.fault.Fed.{Fed}
 use Rattle.etx_macros.specs.declared.fault.Fed.TheVariants.{More, Done, Fault, OutOfMemory}
 use Rattle.etx_macros.specs.declared.matcher.Matcher.{Matcher}
 use Rattle.etx_macros.specs.Marks.{has_category, is_par, depth_of, IsBalanced}
-use Rattle.etx_macros.specs.Calls.{ParsAreAllowed, AreSpaces, Gives, MatchesCall}
-use Rattle.etx_macros.specs.Matching.{said_at}
+use Rattle.etx_macros.specs.Calls.{ParsAreAllowed, AreSpaces, Gives, EndsInside, MatchesCall}
+use Rattle.etx_macros.specs.Matching.{said_at, IsFound}
 use Rattle.etx_macros.specs.Within.{Within}
 
 -- in the text before the first parameter
@@ -54,11 +54,19 @@ Means Done m call = IsWhole m call
 Means (Fault fault) m call = Unit {0}
 Means OutOfMemory m call = Unit {0}
 
+-- outside braces, the token may belong to the delimiter
+abbrev pub IsAbsorbed : Matcher → Token → Type 0
+IsAbsorbed m t = (m.depth ≡ 0) × EndsInside (m.read ++ t ∷ []) (slice_index_or m.parts m.part [])
+
+-- the token doesn't end a delimited argument
+abbrev pub IsUnfound : Matcher → Token → Type 0
+IsUnfound m t = (slice_index_or m.parts m.part [] ≡ [] → ⊥) → IsFound (slice_index_or m.parts m.part []) (m.read ++ t ∷ []) → ⊥
+
 -- why a token is the fault that it is
 abbrev pub IsCause : MatchFault → Matcher → Token → Type 0
 IsCause DoesNotMatch m t = (m.part ≡ 0) × ((rest : List Token) → slice_index_or m.parts 0 [] ≡ (m.read ++ t ∷ []) ++ rest → ⊥)
-IsCause ParagraphEnded m t = (0 < m.part) × (m.long ≡ false) × (is_par t ≡ true)
-IsCause ExtraBrace m t = (0 < m.part) × (m.depth ≡ 0) × (has_category t 2 ≡ true)
+IsCause ParagraphEnded m t = (0 < m.part) × IsUnfound m t × (m.long ≡ false) × (is_par t ≡ true) × (IsAbsorbed m t → ⊥)
+IsCause ExtraBrace m t = (0 < m.part) × IsUnfound m t × (m.depth ≡ 0) × (has_category t 2 ≡ true)
 
 abbrev pub HasCause : Fed → Matcher → Token → Type 0
 HasCause More m t = Unit {0}

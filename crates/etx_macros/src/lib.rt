@@ -7,6 +7,7 @@
 
 mod argument;
 mod fault;
+mod law;
 mod mark;
 mod matcher;
 mod pattern;
@@ -14,5 +15,6 @@ mod pattern;
 mod tests;
 
 pub use fault::{Fed, MatchFault};
+pub use law::each_text_begins_with_one_call;
 pub use matcher::Matcher;
 pub use pattern::{Pattern, PatternFault};

@@ -81,7 +81,7 @@ impl Matcher {
     /// Whether the last token stands outside braces and may belong to the delimiter.
     fn is_inside(&self) -> bool
         requires { IsGoing self.now }
-        ensures { IsTrue result → (self.now.depth ≡ 0) × EndsInside self.now.read (slice_index_or self.now.parts self.now.part []) }
+        ensures { IsTrue result ↔ (self.now.depth ≡ 0) × EndsInside self.now.read (slice_index_or self.now.parts self.now.part []) }
     {
         self.depth == 0 && ends_inside(self.read.as_slice(), self.delimiter())
     }

@@ -50,7 +50,7 @@ returns-in-Ok-clause-means c = λ call h.
       inr (subst (λ (r : List Token). InArgument m.parts m.long m.args m.part r c.in-Ok.depth (call ++ t ∷ [])) (sym ok)
           (delimited_keep m.parts m.long m.args m.part m.read m.depth call t c.in-Ok.depth c.requires.delimited (in_argument m.parts m.long m.args m.part m.read m.depth call c.requires.part h.1)
           (λ found. false≢true (sym c.if-has_found.false ∙ c.has_found.ensures.1 (subst (λ (r : List Token). IsFound d r) (sym ok) found)))
-          (λ l p. let i = c.is_inside.ensures (k.0 l p) in (i.0, subst (λ (r : List Token). EndsInside r d) ok i.1))
+          (λ l p. let i = c.is_inside.ensures.0 (k.0 l p) in (i.0, subst (λ (r : List Token). EndsInside r d) ok i.1))
           k.1)),
     )
 
@@ -59,4 +59,9 @@ returns-in-Err-clause-cause c =
     let m = c.args.self.now in
     let e : delimited_turn c.is_inside.result m.depth m.long c.args.token ≡ Err c.in-Err.fault =
     ap (λ d. delimited_turn c.is_inside.result d m.long c.args.token) (sym c.open_braces.ensures.depth) ∙ sym c.delimited_turn.ensures ∙ c.in-Err.is in
-    cause_of m c.args.token c.in-Err.fault c.requires.part (delimited_fault c.is_inside.result m.depth m.long c.args.token c.in-Err.fault e)
+    let d : List Token = slice_index_or m.parts m.part [] in
+    let ok : c.push.new.self ≡ m.read ++ c.args.token ∷ [] = c.in_ok-push.ensures.ok in
+    cause_of m c.args.token c.in-Err.fault (c.is_inside.result ≡ false) c.requires.part
+      (λ some found. false≢true (sym c.if-has_found.false ∙ c.has_found.ensures.1 (subst (λ (r : List Token). IsFound d r) (sym ok) found)))
+      (λ free a. false≢true (sym free ∙ c.is_inside.ensures.1 (a.0, subst (λ (r : List Token). EndsInside r d) (sym ok) a.1)))
+      (delimited_fault c.is_inside.result m.depth m.long c.args.token c.in-Err.fault e)

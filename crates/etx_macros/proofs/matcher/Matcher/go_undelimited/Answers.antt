@@ -8,7 +8,7 @@ use Rattle.etx_macros.specs.Matching.{undelimited_turn}
 use Rattle.etx_macros.specs.Progress.{InArgument, IsAfter, Means, EndsArgument}
 use Rattle.etx_macros.proofs.Depths.{behind_bound}
 use Rattle.etx_macros.proofs.Turns.{keep_turn, undelimited_fault}
-use Rattle.etx_macros.proofs.Steps.{in_argument, undelimited_skip, undelimited_keep, undelimited_end, cause_of, end_means, no_cut, if_ok_each}
+use Rattle.etx_macros.proofs.Steps.{in_argument, undelimited_skip, undelimited_keep, undelimited_end, cause_of, not_absorbed, end_means, no_cut, if_ok_each}
 use Rattle.etx_macros.proofs.matcher.Matcher.go_undelimited.Goals as goal
 
 pub invariant_of-self-in-Keep : goal.invariant_of-self-in-Keep
@@ -31,7 +31,7 @@ returns-in-Fault-clause-cause c =
     let m = c.args.self.now in
     let e : undelimited_turn m.depth m.long c.args.token ≡ turn.Fault c.in-Fault.fault =
     ap (λ d. undelimited_turn d m.long c.args.token) (sym c.open_braces.ensures.depth) ∙ sym c.undelimited_turn.ensures ∙ c.in-Fault.is in
-    cause_of m c.args.token c.in-Fault.fault c.requires.part (undelimited_fault m.depth m.long c.args.token c.in-Fault.fault e)
+    cause_of m c.args.token c.in-Fault.fault (Unit {0}) c.requires.part (λ some found. some c.requires.bare) (λ free. not_absorbed m c.args.token c.requires.bare) (undelimited_fault m.depth m.long c.args.token c.in-Fault.fault e)
 
 pub returns-in_ok-push-in-Keep-clause-means : goal.returns-in_ok-push-in-Keep-clause-means
 returns-in_ok-push-in-Keep-clause-means c = λ call h.
