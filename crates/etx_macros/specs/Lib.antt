@@ -1,0 +1,6 @@
+pub mod Calls
+pub mod Marks
+pub mod Matching
+pub mod ParameterText
+pub mod Progress
+pub mod Within

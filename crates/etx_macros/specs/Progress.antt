@@ -1,0 +1,121 @@
+-- How far the match of a call has come.
+use Rattle.std.specs.Prelude.{ℕ, zero, suc, ◌+◌, ◌<◌, ◌≤◌, Bool, true, false, List, [], ◌∷◌, ◌++◌, Option, Some, None, ◌≡◌, ◌⊎◌, length, take, slice_index_or}
+use Rattle.etx_matter.specs.declared.token.Token.{Token}
+use Rattle.etx_macros.specs.declared.fault.MatchFault.{MatchFault}
+use Rattle.etx_macros.specs.declared.fault.MatchFault.TheVariants.{DoesNotMatch, ParagraphEnded, ExtraBrace}
+use Rattle.etx_macros.specs.declared.fault.Fed.{Fed}
+use Rattle.etx_macros.specs.declared.fault.Fed.TheVariants.{More, Done, Fault, OutOfMemory}
+use Rattle.etx_macros.specs.declared.matcher.Matcher.{Matcher}
+use Rattle.etx_macros.specs.Marks.{has_category, is_par, depth_of, IsBalanced}
+use Rattle.etx_macros.specs.Calls.{ParsAreAllowed, AreSpaces, Gives, EndsInside, MatchesCall}
+use Rattle.etx_macros.specs.Matching.{said_at, IsFound}
+use Rattle.etx_macros.specs.Within.{Within}
+
+-- in the text before the first parameter
+pub record InText (parts args : List (List Token)) (part : ℕ) (read : List Token) (depth : ℕ) (call : List Token) : Type 0 where
+  pub first : part ≡ 0
+  pub no_args : args ≡ []
+  pub flat : depth ≡ 0
+  pub same : call ≡ read
+  pub rest : List Token
+  pub begins : slice_index_or parts 0 [] ≡ read ++ rest
+
+-- in an argument: the call so far is one of the parts before, then what was read of the argument
+pub record InArgument (parts : List (List Token)) (long : Bool) (args : List (List Token)) (part : ℕ) (read : List Token) (depth : ℕ) (call : List Token) : Type 0 where
+  pub past_text : 0 < part
+  pub before : List Token
+  pub matched : MatchesCall long (take part parts) before args
+  pub skipped : List Token
+  pub whole : call ≡ before ++ (skipped ++ read)
+  pub within : Within long (slice_index_or parts part []) skipped read depth
+
+-- more tokens are wanted
+pub record IsGoing (m : Matcher) : Type 0 where
+  pub in_parts : m.part < length m.parts
+  pub not_failed : m.failed ≡ false
+
+-- the call is complete
+pub record IsDone (m : Matcher) : Type 0 where
+  pub at_end : m.part ≡ length m.parts
+  pub not_failed : m.failed ≡ false
+
+-- these tokens were fed so far, and more are wanted
+abbrev pub IsAfter : Matcher → List Token → Type 0
+IsAfter m call = IsGoing m × (InText m.parts m.args m.part m.read m.depth call ⊎ InArgument m.parts m.long m.args m.part m.read m.depth call)
+
+-- the tokens are a call with these arguments
+abbrev pub IsWhole : Matcher → List Token → Type 0
+IsWhole m call = IsDone m × MatchesCall m.long m.parts call m.args
+
+-- what a matcher says when these tokens were fed
+abbrev pub Means : Fed → Matcher → List Token → Type 0
+Means More m call = IsAfter m call
+Means Done m call = IsWhole m call
+Means (Fault fault) m call = Unit {0}
+Means OutOfMemory m call = Unit {0}
+
+-- outside braces, the token may belong to the delimiter
+abbrev pub IsAbsorbed : Matcher → Token → Type 0
+IsAbsorbed m t = (m.depth ≡ 0) × EndsInside (m.read ++ t ∷ []) (slice_index_or m.parts m.part [])
+
+-- the token doesn't end a delimited argument
+abbrev pub IsUnfound : Matcher → Token → Type 0
+IsUnfound m t = (slice_index_or m.parts m.part [] ≡ [] → ⊥) → IsFound (slice_index_or m.parts m.part []) (m.read ++ t ∷ []) → ⊥
+
+-- why a token is the fault that it is
+abbrev pub IsCause : MatchFault → Matcher → Token → Type 0
+IsCause DoesNotMatch m t = (m.part ≡ 0) × ((rest : List Token) → slice_index_or m.parts 0 [] ≡ (m.read ++ t ∷ []) ++ rest → ⊥)
+IsCause ParagraphEnded m t = (0 < m.part) × IsUnfound m t × (m.long ≡ false) × (is_par t ≡ true) × (IsAbsorbed m t → ⊥)
+IsCause ExtraBrace m t = (0 < m.part) × IsUnfound m t × (m.depth ≡ 0) × (has_category t 2 ≡ true)
+
+abbrev pub HasCause : Fed → Matcher → Token → Type 0
+HasCause More m t = Unit {0}
+HasCause Done m t = Unit {0}
+HasCause (Fault fault) m t = IsCause fault m t
+HasCause OutOfMemory m t = Unit {0}
+
+-- an argument is over, of which the last so many tokens were its delimiter
+pub record EndsArgument (m m' : Matcher) (delimiter : ℕ) (fed : Fed) : Type 0 where
+  pub parts_is : m'.parts ≡ m.parts
+  pub long_is : m'.long ≡ m.long
+  pub failed_is : m'.failed ≡ m.failed
+  pub arg : List Token
+  pub raw : List Token
+  pub cut : List Token
+  pub read_was : m.read ≡ raw ++ cut
+  pub cut_length : length cut ≡ delimiter
+  pub gives : Gives raw arg
+  pub args_is : m'.args ≡ m.args ++ arg ∷ []
+  pub part_is : m'.part ≡ m.part + 1
+  pub read_is : m'.read ≡ []
+  pub depth_is : m'.depth ≡ 0
+  pub fed_is : fed ≡ said_at (m.part + 1) (length m.parts)
+
+-- whether a matcher goes on, as it says
+abbrev pub GoesOn : Fed → Matcher → Type 0
+GoesOn More m = IsGoing m
+GoesOn Done m = IsDone m
+GoesOn (Fault fault) m = Unit {0}
+GoesOn OutOfMemory m = Unit {0}
+
+-- what a matcher is after what it says
+abbrev pub Stands : Fed → Matcher → Type 0
+Stands More m = IsGoing m
+Stands Done m = IsDone m
+Stands (Fault fault) m = m.failed ≡ true
+Stands OutOfMemory m = m.failed ≡ true
+
+-- nothing but these is changed
+pub record KeepsPattern (m m' : Matcher) : Type 0 where
+  pub parts_is : m'.parts ≡ m.parts
+  pub long_is : m'.long ≡ m.long
+
+-- a matcher that begins with a part
+pub record IsStart (m : Matcher) (parts : List (List Token)) (long : Bool) (part : ℕ) : Type 0 where
+  pub parts_is : m.parts ≡ parts
+  pub long_is : m.long ≡ long
+  pub args_is : m.args ≡ []
+  pub part_is : m.part ≡ part
+  pub read_is : m.read ≡ []
+  pub depth_is : m.depth ≡ 0
+  pub failed_is : m.failed ≡ false

@@ -1,0 +1,131 @@
+// The text of an argument.
+ghost use Rattle.std.specs.Prelude.{◌≡◌, ◌<◌, ◌≤◌, ◌↔◌, ◌⊎◌, IsTrue, IfOk, MatchBool, List, length, slice_get, Some};
+ghost use Rattle.etx_matter.specs.declared.token.Token.{Token};
+ghost use Rattle.etx_macros.specs.Calls.{Gives, EndsInside, IsGroup, inner_of};
+ghost use Rattle.etx_macros.specs.Matching.{IsFound, undelimited_turn, delimited_turn, said_at};
+
+use crate::fault::{Fed, MatchFault};
+use crate::mark::{behind, ends_with, has_category, is_balanced, is_par, is_same, is_space};
+use etx_matter::{Token, Tokens};
+use std::alloc::{AllocError, Global};
+
+/// What a token makes of the part of a pattern that is being matched.
+#[derive(Clone, Copy, Drop)]
+pub enum Turn {
+    /// The token is a space before an undelimited argument, and dropped.
+    Skip,
+    /// The part goes on, with so many braces open.
+    Keep(usize),
+    /// The token is the last one of the part.
+    Found,
+    /// No call goes on so.
+    Fault(MatchFault),
+}
+
+/// Whether a text is balanced up to a delimiter at its end.
+pub fn is_found(read: &[Token], delimiter: &[Token]) -> bool
+    requires { length read.now ≤ 1073741824 }
+    ensures { IsTrue result ↔ IsFound delimiter.now read.now }
+{
+    if !ends_with(read, delimiter) {
+        return false;
+    }
+    is_balanced(&read[..read.len() - delimiter.len()])
+}
+
+/// Whether a text ends with a beginning of the delimiter, of one token at least.
+pub fn ends_inside(read: &[Token], delimiter: &[Token]) -> bool
+    ensures { IsTrue result ↔ EndsInside read.now delimiter.now }
+{
+    for count in 0..delimiter.len() {
+        if ends_with(read, &delimiter[..count + 1]) {
+            return true;
+        }
+    }
+    false
+}
+
+/// Whether a text is one pair of braces around a balanced text.
+fn is_group(text: &[Token]) -> bool
+    requires { length text.now ≤ 1073741824 }
+    ensures { MatchBool result (IsGroup text.now (inner_of text.now)) ((inner : List Token) → IsGroup text.now inner → ⊥) }
+{
+    if text.len() < 2 {
+        return false;
+    }
+    if !has_category(text[0], 1) {
+        return false;
+    }
+    if !has_category(text[text.len() - 1], 2) {
+        return false;
+    }
+    is_balanced(&text[1..text.len() - 1])
+}
+
+/// The argument that a text gives: without the braces, where one pair encloses it all.
+pub fn unwrapped(alloc: Global, text: &[Token]) -> Result<Tokens, AllocError>
+    requires { length text.now ≤ 1073741824 }
+    ensures { IfOk result (Gives text.now) }
+{
+    if is_group(text) {
+        return Tokens::from_slice(alloc, &text[1..text.len() - 1]);
+    }
+    Tokens::from_slice(alloc, text)
+}
+
+/// What a token makes of an undelimited argument.
+#[tactic(auto, unfolding(crate::specs::Matching::undelimited_turn))]
+pub fn undelimited_turn(depth: usize, long: bool, token: Token) -> Turn
+    requires { depth ≤ 1073741824 }
+    ensures { result ≡ undelimited_turn depth long token }
+{
+    if depth == 0 && is_space(token) {
+        return Turn::Skip;
+    }
+    if !long && is_par(token) {
+        return Turn::Fault(MatchFault::ParagraphEnded);
+    }
+    match behind(token, depth) {
+        None => Turn::Fault(MatchFault::ExtraBrace),
+        Some(0) => Turn::Found,
+        Some(open) => Turn::Keep(open),
+    }
+}
+
+/// How many braces are open behind a token of a delimited argument that it doesn't end. `is_inside`: the token stands
+/// outside braces, and the text up to it ends with a beginning of the delimiter.
+#[tactic(auto, unfolding(crate::specs::Matching::delimited_turn))]
+pub fn delimited_turn(
+    is_inside: bool,
+    depth: usize,
+    long: bool,
+    token: Token,
+) -> Result<usize, MatchFault>
+    requires { depth ≤ 1073741824 }
+    ensures { result ≡ delimited_turn is_inside depth long token }
+{
+    if !long && is_par(token) && !is_inside {
+        return Err(MatchFault::ParagraphEnded);
+    }
+    match behind(token, depth) {
+        None => Err(MatchFault::ExtraBrace),
+        Some(open) => Ok(open),
+    }
+}
+
+/// Whether a text has this token at `at`.
+pub fn has_at(text: &[Token], at: usize, token: Token) -> bool
+    ensures { IsTrue result ↔ (slice_get text.now at ≡ Some token) }
+{
+    match text.get(at) {
+        Some(wanted) => is_same(*wanted, token),
+        None => false,
+    }
+}
+
+/// What is said where the next part is `part` of `count`.
+pub fn said(part: usize, count: usize) -> Fed
+    ensures { result ≡ said_at part count }
+{
+    if part == count { Fed::Done } else { Fed::More }
+}

@@ -1,0 +1,20 @@
+//! A macro's parameter text, and the match of a call against it.
+//!
+//! [`Pattern::read`] takes a parameter text apart. A [`Matcher`] is fed the tokens of a call, one after another, and
+//! says whether more are wanted, the call is complete, or no call goes on so. The rules are those of "TeX: The
+//! Program", sections 389 to 401 and 473 to 476.
+#![tactic(auto)]
+
+mod argument;
+mod fault;
+mod law;
+mod mark;
+mod matcher;
+mod pattern;
+#[cfg(test)]
+mod tests;
+
+pub use fault::{Fed, MatchFault};
+pub use law::each_text_begins_with_one_call;
+pub use matcher::Matcher;
+pub use pattern::{Pattern, PatternFault};

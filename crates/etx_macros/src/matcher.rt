@@ -1,0 +1,254 @@
+// The match of a call, token by token.
+ghost use Rattle.std.specs.Prelude.{◌≤◌, length};
+
+use crate::argument::{
+    Turn, delimited_turn, ends_inside, has_at, is_found, said, undelimited_turn, unwrapped,
+};
+use crate::fault::{Fed, MatchFault};
+use crate::pattern::Pattern;
+use etx_lists::Listed;
+use etx_matter::{Token, Tokens};
+use std::alloc::{AllocError, Global};
+
+/// The match of a call against a pattern.
+#[derive(Debug, Drop)]
+pub struct Matcher {
+    alloc: Global,
+    /// The pattern's parts: the text before the first parameter, then the delimiters.
+    parts: Listed<Tokens>,
+    long: bool,
+    /// The arguments that are complete.
+    args: Listed<Tokens>,
+    /// The part that is being matched.
+    part: usize,
+    /// What was read of this part, without the spaces before an undelimited argument.
+    read: Tokens,
+    /// How many braces are open in what was read.
+    depth: usize,
+    failed: bool,
+    ghost shallow: { depth ≤ length read },
+}
+
+impl Matcher {
+    ghost use Rattle.std.specs.Prelude.{◌≡◌, ◌<◌, ◌≤◌, ◌++◌, ◌∷◌, [], ◌↔◌, ◌⊎◌, IsTrue, IfOk, MatchBool, length, List, slice_index_or};
+    ghost use Rattle.etx_matter.specs.declared.token.Token.{Token};
+    ghost use Rattle.etx_macros.specs.Progress.{IsGoing, IsDone, IsAfter, IsWhole, Means, HasCause, EndsArgument, GoesOn, Stands, KeepsPattern, IsStart};
+    ghost use Rattle.etx_macros.specs.Matching.{IsFound};
+    ghost use Rattle.etx_macros.specs.Calls.{EndsInside};
+
+    /// Ends an argument, the last `delimiter` tokens of which are its delimiter.
+    fn end_argument(&mut self, delimiter: usize) -> Result<Fed, AllocError>
+        requires long_enough { delimiter ≤ length self.old.read }
+        requires in_parts { self.old.part < length self.old.parts }
+        ensures ends { IfOk result (EndsArgument self.old self.new delimiter) }
+        ensures keeps { KeepsPattern self.old self.new }
+    {
+        let count = self.parts.len();
+        let read = self.read.as_slice();
+        let arg = unwrapped(self.alloc, &read[..read.len() - delimiter])?;
+        self.args.push(arg)?;
+        self.part += 1;
+        self.read = Tokens::new(self.alloc);
+        self.depth = 0;
+        Ok(said(self.part, count))
+    }
+
+    /// How many braces are open: no more than tokens were read.
+    fn open_braces(&self) -> usize
+        ensures depth { result ≡ self.now.depth }
+        ensures small { result ≤ 1073741824 }
+    {
+        self.depth.min(self.read.len())
+    }
+
+    /// The text of the part that is being matched.
+    fn delimiter(&self) -> &[Token]
+        requires { IsGoing self.now }
+        ensures same { result.now ≡ slice_index_or self.now.parts self.now.part [] }
+        ensures small { length result.now ≤ 1073741824 }
+    {
+        self.parts.as_slice()[self.part].as_slice()
+    }
+
+    /// Whether the delimiter ends what was read.
+    fn has_found(&self) -> bool
+        requires { IsGoing self.now }
+        ensures { IsTrue result ↔ IsFound (slice_index_or self.now.parts self.now.part []) self.now.read }
+    {
+        is_found(self.read.as_slice(), self.delimiter())
+    }
+
+    /// Whether the last token stands outside braces and may belong to the delimiter.
+    fn is_inside(&self) -> bool
+        requires { IsGoing self.now }
+        ensures { IsTrue result ↔ (self.now.depth ≡ 0) × EndsInside self.now.read (slice_index_or self.now.parts self.now.part []) }
+    {
+        self.depth == 0 && ends_inside(self.read.as_slice(), self.delimiter())
+    }
+
+    /// A token of the text before the first parameter.
+    fn go_text(&mut self, token: Token) -> Result<Fed, AllocError>
+        requires going { IsGoing self.old }
+        requires part { self.old.part ≡ 0 }
+        ensures means { IfOk result (λ fed. (call : List Token) → IsAfter self.old call → Means fed self.new (call ++ token ∷ [])) }
+        ensures cause { IfOk result (λ fed. HasCause fed self.old token) }
+        ensures goes { IfOk result (λ fed. GoesOn fed self.new) }
+        ensures keeps { KeepsPattern self.old self.new }
+    {
+        let count = self.parts.len();
+        let at = self.read.len();
+        let text = self.delimiter();
+        if !has_at(text, at, token) {
+            return Ok(Fed::Fault(MatchFault::DoesNotMatch));
+        }
+        let is_last = at + 1 == text.len();
+        self.read.push(token)?;
+        if !is_last {
+            return Ok(Fed::More);
+        }
+        self.part = 1;
+        self.depth = 0;
+        self.read = Tokens::new(self.alloc);
+        Ok(said(1, count))
+    }
+
+    /// A token of an undelimited argument.
+    fn go_undelimited(&mut self, token: Token) -> Result<Fed, AllocError>
+        requires going { IsGoing self.old }
+        requires part { 0 < self.old.part }
+        requires bare { slice_index_or self.old.parts self.old.part [] ≡ [] }
+        ensures means { IfOk result (λ fed. (call : List Token) → IsAfter self.old call → Means fed self.new (call ++ token ∷ [])) }
+        ensures cause { IfOk result (λ fed. HasCause fed self.old token) }
+        ensures goes { IfOk result (λ fed. GoesOn fed self.new) }
+        ensures keeps { KeepsPattern self.old self.new }
+    {
+        match undelimited_turn(self.open_braces(), self.long, token) {
+            Turn::Skip => Ok(Fed::More),
+            Turn::Fault(fault) => Ok(Fed::Fault(fault)),
+            Turn::Keep(depth) => {
+                self.read.push(token)?;
+                self.depth = depth;
+                Ok(Fed::More)
+            }
+            Turn::Found => {
+                self.read.push(token)?;
+                self.end_argument(0)
+            }
+        }
+    }
+
+    /// A token of a delimited argument.
+    fn go_delimited(&mut self, token: Token) -> Result<Fed, AllocError>
+        requires going { IsGoing self.old }
+        requires part { 0 < self.old.part }
+        requires delimited { slice_index_or self.old.parts self.old.part [] ≡ [] → ⊥ }
+        ensures means { IfOk result (λ fed. (call : List Token) → IsAfter self.old call → Means fed self.new (call ++ token ∷ [])) }
+        ensures cause { IfOk result (λ fed. HasCause fed self.old token) }
+        ensures goes { IfOk result (λ fed. GoesOn fed self.new) }
+        ensures keeps { KeepsPattern self.old self.new }
+    {
+        self.read.push(token)?;
+        if self.has_found() {
+            let length = self.delimiter().len();
+            return self.end_argument(length);
+        }
+        match delimited_turn(self.is_inside(), self.open_braces(), self.long, token) {
+            Ok(depth) => {
+                self.depth = depth;
+                Ok(Fed::More)
+            }
+            Err(fault) => Ok(Fed::Fault(fault)),
+        }
+    }
+
+    /// A token of any part.
+    fn go(&mut self, token: Token) -> Result<Fed, AllocError>
+        requires { IsGoing self.old }
+        ensures means { IfOk result (λ fed. (call : List Token) → IsAfter self.old call → Means fed self.new (call ++ token ∷ [])) }
+        ensures cause { IfOk result (λ fed. HasCause fed self.old token) }
+        ensures goes { IfOk result (λ fed. GoesOn fed self.new) }
+        ensures keeps { KeepsPattern self.old self.new }
+    {
+        if self.part == 0 {
+            return self.go_text(token);
+        }
+        if self.parts.as_slice()[self.part].is_empty() {
+            self.go_undelimited(token)
+        } else {
+            self.go_delimited(token)
+        }
+    }
+
+    /// A matcher that nothing was fed to. A pattern with no token and no parameter is a complete call at once.
+    pub fn new(alloc: Global, pattern: &Pattern, long: bool) -> Result<Matcher, AllocError>
+        ensures starts { IfOk result (λ m. IsAfter m [] ⊎ IsWhole m []) }
+        ensures parts { IfOk result (λ m. m.parts ≡ pattern.now.parts) }
+        ensures long { IfOk result (λ m. m.long ≡ long) }
+    {
+        let parts = pattern.copied(alloc)?;
+        if parts.as_slice()[0].is_empty() {
+            return Ok(Matcher::at_part(alloc, parts, long, 1));
+        }
+        Ok(Matcher::at_part(alloc, parts, long, 0))
+    }
+
+    /// A matcher that begins with a part.
+    fn at_part(alloc: Global, parts: Listed<Tokens>, long: bool, part: usize) -> Matcher
+        ensures { IsStart result parts long part }
+    {
+        Matcher {
+            alloc,
+            parts,
+            long,
+            args: Listed::new(alloc),
+            part,
+            read: Tokens::new(alloc),
+            depth: 0,
+            failed: false,
+        }
+    }
+
+    /// Whether more tokens are wanted.
+    pub fn is_going(&self) -> bool
+        ensures { MatchBool result (IsGoing self.now) (IsGoing self.now → ⊥) }
+    {
+        !self.failed && self.part < self.parts.len()
+    }
+
+    /// Whether the call is complete.
+    pub fn is_done(&self) -> bool
+        ensures { MatchBool result (IsDone self.now) (IsDone self.now → ⊥) }
+    {
+        !self.failed && self.part == self.parts.len()
+    }
+
+    /// Takes the next token of the call.
+    pub fn feed(&mut self, token: Token) -> Fed
+        requires { IsGoing self.old }
+        ensures means { (call : List Token) → IsAfter self.old call → Means result self.new (call ++ token ∷ []) }
+        ensures cause { HasCause result self.old token }
+        ensures stands { Stands result self.new }
+        ensures keeps { KeepsPattern self.old self.new }
+    {
+        match self.go(token) {
+            Ok(Fed::More) => Fed::More,
+            Ok(Fed::Done) => Fed::Done,
+            Ok(fed) => {
+                self.failed = true;
+                fed
+            }
+            Err(_) => {
+                self.failed = true;
+                Fed::OutOfMemory
+            }
+        }
+    }
+
+    /// The arguments, in order. Takes no memory.
+    pub fn args(&self) -> &[Tokens]
+        requires { IsDone self.now }
+        ensures { result.now ≡ self.now.args }
+    {
+        self.args.as_slice()
+    }
+}
