@@ -1,0 +1,4 @@
+pub mod Searching
+pub mod Sorted
+pub mod Covers
+pub mod Laws

@@ -1,0 +1,9 @@
+pub mod Parameters
+pub mod Expansion
+pub mod Quantities
+pub mod Assignments
+pub mod General
+pub mod Material
+pub mod Math
+pub mod Names
+pub mod Rising
