@@ -1,0 +1,8 @@
+use Rattle.std.proofs.Common.{sym, subst}
+use Rattle.etx_state.specs.Saves.{here, items_of, cells_of, tail_of, IsTied}
+use Rattle.etx_state.proofs.Stored.{sound_here, tied_undone}
+use Rattle.etx_state.proofs.saves.undo.Goals as goal
+
+pub drop_top-requires-clause-tied : goal.drop_top-requires-clause-tied
+drop_top-requires-clause-tied c =
+    rw (c.in_ok-put_back.ensures.items, c.in_ok-put_back.ensures.cells) (tied_undone _ _ _ _ (sound_here _ c.requires.sound).tied c.requires.top)

@@ -1,0 +1,6 @@
+pub mod Fits
+pub mod Initial
+pub mod Limits
+pub mod Naming
+pub mod Saves
+pub mod Values
