@@ -12,8 +12,8 @@ either false m n hm hn = hn
 category_small : (c : ℕ) → first_category c ≤ 15
 unfolding first_category
 category_small c =
-    either _ _ _ (omega arith) (either _ _ _ (omega arith) (either _ _ _ (omega arith) (either _ _ _ (omega arith)
-    (either _ _ _ (omega arith) (either _ _ _ (omega arith) (either _ _ _ (omega arith) (omega arith)))))))
+    either _ 0 _ (omega arith) (either _ 11 _ (omega arith) (either _ 10 _ (omega arith) (either _ 5 _ (omega arith)
+    (either _ 14 _ (omega arith) (either _ 9 _ (omega arith) (either _ 15 12 (omega arith) (omega arith)))))))
 
 meaning_fits : (n : ℕ) → IsMeaning (first_meaning n)
 meaning_fits zero = tt

@@ -11,7 +11,8 @@ use Rattle.etx_state.specs.declared.slot.Content.{Content}
 use Rattle.etx_undo.specs.History.{place, present, at, SameUpTo, IsSince}
 use Rattle.etx_undo.proofs.Histories.{at-place, IsSince-back, present-back}
 use Rattle.etx_state.specs.Values.{Values, get, assign, assign_global, change, begin, ended, kind, after, noted, level, outermost}
-use Rattle.etx_state.specs.Saves.{Kept', Cells, here, back_at, items_of, cells_of, sizes_in, items_in, cells_in, items_to, put, depth_of, values, values_in, values_in_at, left_of, kind_in, IsTied, IsWhole, IsSound, IsKeptIn, KeepsIn, slot_cmp, meaning, first_of}
+use Rattle.etx_state.specs.Saves.{Kept', Cells, here, back_at, items_of, cells_of, sizes_in, items_in, cells_in, items_to, put, depth_of, values, values_in, values_in_at, left_of, kind_in, IsTied, IsWhole, IsSound, IsKeptIn, KeepsIn, slot_cmp, meaning}
+use Rattle.etx_state.specs.Initial.{first_of}
 use Rattle.etx_state.proofs.Fitting.{first_fits}
 use Rattle.etx_state.specs.Fits.{Fits}
 use Rattle.etx_state.proofs.Refine.{values_global, values_begin, values_noted, values_here, values_saved, values_change, values_get, values_kind, values_ended, values_after, values_level, kind_values, level_le, tied_void, tied_change, tied_saved}

@@ -3,4 +3,5 @@ pub mod Initial
 pub mod Limits
 pub mod Naming
 pub mod Saves
+pub mod States
 pub mod Values

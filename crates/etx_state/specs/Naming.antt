@@ -1,5 +1,5 @@
 -- Names of control sequences, each under the number that is its place in a list.
-use Rattle.std.specs.Prelude.{◌≡◌, ◌≢◌, ℕ, List, Some, slice_get, ⊥}
+use Rattle.std.specs.Prelude.{◌≡◌, ◌≢◌, ℕ, List, Some, slice_get}
 use Rattle.etx_prims.specs.declared.primitive.Prim.{Prim}
 use Rattle.etx_prims.specs.Names.{name_of}
 use Rattle.etx_state.specs.declared.key.Meaning.{Meaning}

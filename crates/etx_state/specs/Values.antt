@@ -100,12 +100,12 @@ after_at (g ∷ gs) = g.after
 unfoldable pub after : Values → List Token
 after m = after_at m.groups
 
-abbrev pub noted_at : (Key → Val) → List Group → ℕ → Values
+abbrev pub noted_at : (Key → Val) → List Group → Token → Values
 noted_at o [] t = outermost o
 noted_at o (g ∷ gs) t = record { outer = o; groups = record { kind = g.kind; after = g.after ++ t ∷ []; map = g.map } ∷ gs }
 
 -- one more of them
-unfoldable pub noted : Values → ℕ → Values
+unfoldable pub noted : Values → Token → Values
 noted m t = noted_at m.outer m.groups t
 
 -- the number of open groups

@@ -9,9 +9,10 @@ mod names;
 mod saves;
 mod scopes;
 mod slot;
+mod state;
 mod unread;
 
 pub use key::{GroupKind, Key, Meaning, Val};
 pub use limit::{Capacity, Limit, MOST_GROUPS, MOST_NAMES};
 pub use unread::Unread;
-pub use scopes::Scopes;
+pub use state::{Mark, State};

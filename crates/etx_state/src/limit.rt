@@ -1,5 +1,6 @@
 ghost use Rattle.std.specs.Prelude.{◌≡◌};
 ghost use Rattle.etx_state.specs.Limits.{limit_text};
+ghost use Rattle.etx_state.specs.declared.limit.Capacity.TheVariants.{OutOfMemory};
 
 use std::alloc::AllocError;
 
@@ -46,7 +47,7 @@ pub enum Capacity {
 }
 
 impl From<AllocError> for Capacity {
-    ghost from_gives = { λ _ capacity. capacity ≡ Capacity.OutOfMemory };
+    ghost from_gives = { λ _ capacity. capacity ≡ OutOfMemory };
 
     fn from(_error: AllocError) -> Capacity {
         Capacity::OutOfMemory

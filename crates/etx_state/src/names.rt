@@ -48,10 +48,13 @@ impl Names {
 
     /// The number of the name. `None` exactly where it has none.
     pub fn find(&self, name: &[u8]) -> Option<NameId>
-        ensures { MatchOption result (IsFresh self.now name.now) (λ number. slice_get self.now number.0 ≡ Some name.now) }
+        ensures found { MatchOption result (IsFresh self.now name.now) (λ number. slice_get self.now number.0 ≡ Some name.now) }
+        ensures apart { IsApart self.now }
     {
-        let place = self.texts.get_index_of(name)?;
-        Some(NameId(place as u32))
+        match self.texts.get_index_of(name) {
+            Some(place) => Some(NameId(place as u32)),
+            None => None,
+        }
     }
 
     /// The name with this number. `None` exactly where none has it.

@@ -177,8 +177,9 @@ pub fn last_kind(store: &Store<Slot, Content>) -> Option<GroupKind>
     let mut count = sizes(store).count;
     while count > 0 {
         count -= 1;
-        if let Some(kind) = kind_at(store, count) {
-            return Some(kind);
+        match kind_at(store, count) {
+            Some(kind) => return Some(kind),
+            None => {}
         }
     }
     None

@@ -11,4 +11,4 @@ pub returns-clause-items : goal.returns-clause-items
 returns-clause-items c = ap items_in c.in_ok-set_slot.ensures.ok ∙ items_cell _ _ _
 
 pub returns-clause-cells : goal.returns-clause-cells
-returns-clause-cells c = ap cells_in c.in_ok-set_slot.ensures.ok ∙ cells_cell _ _ _
+returns-clause-cells c = ap cells_in c.in_ok-set_slot.ensures.ok ∙ cells_cell (here c.args.store.now) c.args.key c.args.cell
