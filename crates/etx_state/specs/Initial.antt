@@ -8,7 +8,7 @@ use Rattle.etx_state.specs.declared.key.Val.{Val}
 use Rattle.etx_state.specs.declared.key.Val.TheVariants as val
 use Rattle.etx_state.specs.declared.key.Meaning.{Meaning}
 use Rattle.etx_state.specs.declared.key.Meaning.TheVariants.{Undefined, Primitive}
-use Rattle.etx_prims.specs.declared.primitive.Prim.TheVariants as prims
+use Rattle.etx_prims.specs.declared.command.Primitive.TheVariants as prims
 
 -- the category of a character: 0 for the backslash, 11 for letters, 10 for the space, 5 for the return, 14 for the
 -- per cent sign, 9 for code 0, 15 for code 127 and 12 for all others

@@ -3,7 +3,7 @@ ghost use Rattle.std.specs.Prelude.{◌≡◌};
 ghost use Rattle.etx_state.specs.Initial.{first_category, first_int, first_of};
 
 use crate::key::{Key, Meaning, Val};
-use etx_prims::{IntParam, Prim};
+use etx_prims::{IntParam, Primitive};
 
 /// The value under the key before any assignment.
 pub fn first(key: Key) -> &'static Val
@@ -11,7 +11,7 @@ pub fn first(key: Key) -> &'static Val
 {
     match key {
         Key::Category(code) => first_category(code),
-        Key::Meaning(0) => &Val::Means(Meaning::Primitive(Prim::Par)),
+        Key::Meaning(0) => &Val::Means(Meaning::Primitive(Primitive::Par)),
         Key::Meaning(_) => &Val::Means(Meaning::Undefined),
         Key::Int(parameter) => first_int(parameter),
     }

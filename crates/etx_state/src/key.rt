@@ -1,7 +1,7 @@
 //! What is kept: keys, and the values under them.
 ghost use Rattle.std.specs.Prelude.{◌≡◌, IfOk};
 
-use etx_prims::{IntParam, Prim};
+use etx_prims::{IntParam, Primitive};
 use std::alloc::AllocError;
 
 /// One place of the state.
@@ -21,7 +21,7 @@ pub enum Meaning {
     /// Nothing.
     Undefined,
     /// A command of the engine.
-    Primitive(Prim),
+    Primitive(Primitive),
     /// A character and a category, at most 15, to which it was made equal.
     Char { code: u8, cat: u8 },
 }
