@@ -1,5 +1,5 @@
 -- INITEX's values fit their keys.
-use Rattle.std.proofs.Common.{◌≡◌, ℕ, zero, suc, ◌≤◌, Bool, true, false, refl, arith, if◌then◌else◌, ◌==◌, ◌||◌, ◌&&◌, nat_le}
+use Rattle.std.proofs.Common.{ℕ, zero, suc, ◌≤◌, Bool, true, false, arith, if◌then◌else◌}
 use Rattle.etx_state.specs.declared.key.Key.{Key}
 use Rattle.etx_state.specs.declared.key.Key.TheVariants as key
 use Rattle.etx_state.specs.Initial.{first_of, first_category, first_meaning}

@@ -1,8 +1,8 @@
 -- The orders tell keys apart.
-use Rattle.std.proofs.Common.{◌≡◌, List, [], ◌∷◌, Bool, true, false, refl, sym, ◌∙◌, ap, subst, inl, inr}
+use Rattle.std.proofs.Common.{◌≡◌, List, [], ◌∷◌, true, refl, ap, inl, inr}
 use Rattle.std.specs.declared.cmp.Ordering.{Ordering}
 use Rattle.std.specs.declared.cmp.Ordering.TheVariants.{Less, Equal, Greater}
-use Rattle.std.specs.Ordering.{nat_cmp, is_eq}
+use Rattle.std.specs.Ordering.{is_eq}
 use Rattle.std.specs.Cmp.{tied_itself}
 use Rattle.std.proofs.lemmas.Map.Lookups.{exact_unsigned, CmpEqualImpliesEq}
 use Rattle.std.proofs.lemmas.Map.Views.{tells_apart}
@@ -18,7 +18,6 @@ use Rattle.etx_prims.specs.contracts.parameters.IntParam as param
 use Rattle.etx_state.specs.contracts.slot.Slot as slot
 use Rattle.etx_prims.specs.contracts.parameters.IntParamOrd.TheImpl as ParamOrd
 use Rattle.etx_state.specs.contracts.key.KeyOrd.TheImpl as KeyOrd
-use Rattle.etx_state.specs.contracts.slot.SlotOrd.TheImpl as SlotOrd
 use Rattle.etx_state.specs.contracts.key.KeyOrd.TheImpl.Laws as KeyLaws
 use Rattle.etx_state.specs.contracts.slot.SlotOrd.TheImpl.Laws as SlotLaws
 use Rattle.etx_state.specs.Values.{same}

@@ -1,10 +1,9 @@
 -- What the state was at a mark, behind a call.
-use Rattle.std.proofs.Common.{◌≡◌, ℕ, ◌≤◌, List, ◌++◌, length, take, refl, sym, ◌∙◌, ap, subst, arith}
+use Rattle.std.proofs.Common.{◌≡◌, ℕ, ◌≤◌, List, ◌++◌, length, take, sym, ◌∙◌, ap, subst, arith}
 use Rattle.std.proofs.lemmas.List.{take-append-le, length-append}
 use Rattle.etx_state.specs.declared.state.State.{State}
-use Rattle.etx_state.specs.declared.state.Mark.{Mark}
 use Rattle.etx_state.specs.Saves.{KeepsIn}
-use Rattle.etx_state.specs.States.{IsKept, Keeps}
+use Rattle.etx_state.specs.States.{Keeps}
 
 -- a call that leaves the names
 pub keeps_scopes : (old new : State) → KeepsIn old.scopes new.scopes → new.names ≡ old.names → Keeps old new

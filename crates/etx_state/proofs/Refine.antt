@@ -1,5 +1,5 @@
 -- The cells with levels and the stack of saved items stand for a list of maps.
-use Rattle.std.proofs.Common.{◌≡◌, ◌≢◌, ℕ, zero, suc, ◌+◌, ◌-◌, ◌<◌, ◌≤◌, ◌==◌, List, [], ◌∷◌, ◌++◌, Option, Some, None, Bool, true, false, refl, sym, ◌∙◌, ap, subst, arith, if◌then◌else◌, map, unwrap_or, length, ◌⊎◌, inl, inr, ⊎_elim}
+use Rattle.std.proofs.Common.{◌≡◌, ◌≢◌, ℕ, zero, suc, ◌-◌, ◌<◌, ◌≤◌, ◌==◌, List, [], ◌∷◌, ◌++◌, Option, Some, None, Bool, true, false, refl, sym, ◌∙◌, ap, subst, arith, if◌then◌else◌, unwrap_or, length, ⊎_elim}
 use Rattle.std.proofs.lemmas.Bool.Decides.{nat_tests}
 use Rattle.std.proofs.Math.Nat.{eq-or-lt_of_le}
 use Rattle.etx_state.specs.declared.key.Key.{Key}
@@ -8,7 +8,7 @@ use Rattle.etx_state.specs.declared.key.GroupKind.{GroupKind}
 use Rattle.etx_state.specs.declared.slot.Cell.{Cell}
 use Rattle.etx_state.specs.declared.slot.Item.{Item}
 use Rattle.etx_state.specs.declared.slot.Item.TheVariants.{Undo, After, Begin}
-use Rattle.etx_state.specs.Values.{Values, Group, same, inside, outermost, with_outer, with_key, without_key, put_in, taken_from, by_has, change_at, get, get_at, assign, assign_global, change, begin, ended, kind, after, noted, level}
+use Rattle.etx_state.specs.Values.{same, inside, outermost, with_outer, with_key, without_key, put_in, by_has, change_at, get, assign, assign_global, change, begin, ended, kind, after, noted, level}
 use Rattle.etx_state.specs.Saves.{Cells, put, back, depth_of, map_at, maps, values, IsTied, left_of, kind_in}
 use Rattle.etx_state.proofs.Keys.{same_is, same_self}
 use Rattle.etx_matter.specs.declared.token.Token.{Token}

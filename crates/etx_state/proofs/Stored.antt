@@ -10,10 +10,10 @@ use Rattle.etx_state.specs.declared.slot.Slot.{Slot}
 use Rattle.etx_state.specs.declared.slot.Slot.TheVariants as slots
 use Rattle.etx_state.specs.declared.slot.Content.{Content}
 use Rattle.etx_state.specs.declared.slot.Content.TheVariants.{Held, Stacked, Counted}
-use Rattle.etx_undo.specs.History.{Kept, place, present, at, IsSet, SameUpTo, IsSince}
-use Rattle.etx_undo.proofs.Histories.{at-place, IsSince-set, IsSince-back}
+use Rattle.etx_undo.specs.History.{place, present, at, IsSet, SameUpTo}
+use Rattle.etx_undo.proofs.Histories.{at-place}
 use Rattle.etx_state.specs.Values.{same}
-use Rattle.etx_state.specs.Saves.{slot_cmp, Kept', here, back_at, set_in, cell_or, item_or, cells_in, items_to, items_in, sizes_in, sizes_or, back, left_of, depth_of, depth_after, put, Cells, IsTied, IsWhole, IsSound, top_of, tail_of, kind_in, kind_begun, ItemFits, ItemsFit, CellsFit}
+use Rattle.etx_state.specs.Saves.{slot_cmp, Kept', here, back_at, set_in, cell_or, item_or, cells_in, items_to, items_in, sizes_in, back, left_of, depth_of, depth_after, put, Cells, IsTied, IsWhole, IsSound, top_of, tail_of, kind_in, kind_begun, ItemFits, ItemsFit, CellsFit}
 use Rattle.etx_state.specs.Fits.{Fits}
 use Rattle.etx_state.specs.declared.key.GroupKind.{GroupKind}
 use Rattle.std.proofs.Math.Nat.{eq-or-lt_of_le}

@@ -1,17 +1,16 @@
 -- What the calls on the store mean in the words on values.
-use Rattle.std.proofs.Common.{◌≡◌, ◌≢◌, ℕ, ◌<◌, ◌≤◌, List, [], ◌∷◌, ◌++◌, Option, Some, None, length, refl, sym, ◌∙◌, ap, subst, arith}
+use Rattle.std.proofs.Common.{◌≡◌, ◌≢◌, ℕ, ◌<◌, ◌≤◌, List, [], ◌∷◌, ◌++◌, Option, None, length, refl, sym, ◌∙◌, ap, subst, arith}
 use Rattle.etx_state.specs.declared.key.Key.{Key}
-use Rattle.etx_state.specs.declared.key.Val.{Val}
 use Rattle.etx_state.specs.declared.slot.Cell.{Cell}
 use Rattle.etx_state.specs.declared.key.GroupKind.{GroupKind}
 use Rattle.etx_state.specs.declared.slot.Item.{Item}
 use Rattle.etx_state.specs.declared.slot.Item.TheVariants.{Undo, After, Begin}
 use Rattle.etx_state.specs.declared.slot.Slot.{Slot}
 use Rattle.etx_state.specs.declared.slot.Content.{Content}
-use Rattle.etx_undo.specs.History.{place, present, at, SameUpTo, IsSince}
-use Rattle.etx_undo.proofs.Histories.{at-place, IsSince-back, present-back}
+use Rattle.etx_undo.specs.History.{place, present, SameUpTo}
+use Rattle.etx_undo.proofs.Histories.{IsSince-back, present-back}
 use Rattle.etx_state.specs.Values.{Values, get, assign, assign_global, change, begin, ended, kind, after, noted, level, outermost}
-use Rattle.etx_state.specs.Saves.{Kept', Cells, here, back_at, items_of, cells_of, sizes_in, items_in, cells_in, items_to, put, depth_of, values, values_in, values_in_at, left_of, kind_in, IsTied, IsWhole, IsSound, IsKeptIn, KeepsIn, slot_cmp, meaning}
+use Rattle.etx_state.specs.Saves.{Kept', Cells, here, back_at, items_of, cells_of, sizes_in, items_in, cells_in, put, depth_of, values, values_in, values_in_at, left_of, kind_in, IsTied, IsWhole, IsSound, IsKeptIn, slot_cmp, meaning}
 use Rattle.etx_state.specs.Initial.{first_of}
 use Rattle.etx_state.proofs.Fitting.{first_fits}
 use Rattle.etx_state.specs.Fits.{Fits}

@@ -1,5 +1,5 @@
 -- What the one store stands for: cells with levels, and the stack of what the ends of groups do.
-use Rattle.std.specs.Prelude.{◌≡◌, ℕ, ◌+◌, ◌<◌, ◌≤◌, zero, suc, ◌==◌, Bool, true, false, List, [], ◌∷◌, Option, Some, None, pos, if◌then◌else◌}
+use Rattle.std.specs.Prelude.{◌≡◌, ℕ, ◌+◌, ◌<◌, ◌≤◌, zero, suc, ◌==◌, List, [], ◌∷◌, Option, Some, None, if◌then◌else◌}
 use Rattle.etx_state.specs.declared.key.Key.{Key}
 use Rattle.etx_state.specs.declared.key.Val.{Val}
 use Rattle.etx_state.specs.declared.key.GroupKind.{GroupKind}
@@ -15,7 +15,7 @@ use Rattle.etx_state.specs.contracts.slot.SlotOrd.TheImpl as SlotOrd
 use Rattle.std.specs.declared.cmp.Ordering.{Ordering}
 use Rattle.std.specs.Ordering.{is_eq}
 use Rattle.etx_undo.specs.History.{Kept, place, present, at, IsSince}
-use Rattle.etx_state.specs.Values.{Values, Group, same, inside, outermost}
+use Rattle.etx_state.specs.Values.{Values, same, inside, outermost}
 use Rattle.etx_matter.specs.declared.token.Token.{Token}
 use Rattle.etx_matter.specs.declared.token.Token.TheVariants.{Param}
 use Rattle.etx_state.specs.Initial.{first_of}

@@ -1,5 +1,5 @@
 -- The state, as contracts see it: its values in groups, and the names of control sequences.
-use Rattle.std.specs.Prelude.{◌≡◌, ℕ, ◌+◌, ◌≤◌, ◌<◌, ℤ, pos, List, ◌∷◌, [], ◌++◌, Option, Some, length, take, slice_get}
+use Rattle.std.specs.Prelude.{◌≡◌, ℕ, ◌≤◌, ℤ, pos, List, ◌∷◌, [], ◌++◌, Some, length, take, slice_get}
 use Rattle.etx_state.specs.declared.key.Key.TheVariants as key
 use Rattle.etx_state.specs.declared.key.Val.{Val}
 use Rattle.etx_state.specs.declared.key.Val.TheVariants as val

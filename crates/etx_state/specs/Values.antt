@@ -1,5 +1,5 @@
 -- What is assigned in groups: a list of maps, one a group.
-use Rattle.std.specs.Prelude.{◌≡◌, ℕ, ◌+◌, Bool, List, [], ◌∷◌, ◌++◌, Option, Some, None, map, unwrap_or, length, if◌then◌else◌}
+use Rattle.std.specs.Prelude.{ℕ, Bool, List, [], ◌∷◌, ◌++◌, Option, Some, None, map, unwrap_or, length, if◌then◌else◌}
 use Rattle.std.specs.Ordering.{is_eq}
 use Rattle.etx_state.specs.declared.key.Key.{Key}
 use Rattle.etx_state.specs.declared.key.Val.{Val}

@@ -14,5 +14,5 @@ mod unread;
 
 pub use key::{GroupKind, Key, Meaning, Val};
 pub use limit::{Capacity, Limit, MOST_GROUPS, MOST_NAMES};
-pub use unread::Unread;
 pub use state::{Mark, State};
+pub use unread::Unread;

@@ -1,4 +1,4 @@
-use Rattle.std.proofs.Common.{◌≡◌, ◌<◌, sym, ap, ◌∙◌, subst, arith}
+use Rattle.std.proofs.Common.{◌≡◌, sym, ap, ◌∙◌, arith}
 use Rattle.etx_state.specs.Saves.{here, sizes_in}
 use Rattle.etx_state.proofs.Stored.{sound_here}
 use Rattle.etx_state.proofs.Words.{is_noted, is_unnoted}

@@ -1,7 +1,4 @@
-use Rattle.std.proofs.Common.{◌≡◌, ◌≢◌, ◌∷◌, ◌∙◌, sym, ap, subst}
-use Rattle.etx_state.specs.declared.slot.Item.TheVariants.{Undo}
-use Rattle.etx_state.specs.Fits.{Fits}
-use Rattle.etx_state.specs.Saves.{here, cells_of, items_of, sizes_in, IsTied, ItemFits}
+use Rattle.std.proofs.Common.{◌∙◌, sym, ap}
 use Rattle.etx_state.proofs.Words.{is_here, is_saved, ties_here, ties_saved, ties_over, deep, fits_held}
 use Rattle.etx_state.proofs.groups.assign.Goals as goal
 

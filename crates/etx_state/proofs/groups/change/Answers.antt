@@ -1,4 +1,3 @@
-use Rattle.std.proofs.Common.{ap}
 use Rattle.etx_state.proofs.Refine.{tied_change}
 use Rattle.etx_state.proofs.Stored.{sound_here}
 use Rattle.etx_state.proofs.Words.{is_change}

@@ -1,4 +1,4 @@
-use Rattle.std.proofs.Common.{◌≡◌, ◌+◌, ◌-◌, ◌<◌, sym, ap, ◌∙◌, arith}
+use Rattle.std.proofs.Common.{◌≡◌, ◌-◌, ◌<◌, ap, arith}
 use Rattle.etx_state.specs.Saves.{here, sizes_in}
 use Rattle.etx_state.proofs.Stored.{top_deep, top_count, whole_dropped, dropped_items, sound_here}
 use Rattle.etx_state.proofs.saves.drop_top.Goals as goal

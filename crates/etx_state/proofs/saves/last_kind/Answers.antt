@@ -1,4 +1,4 @@
-use Rattle.std.proofs.Common.{◌≡◌, ◌+◌, ◌-◌, ◌∙◌, ap, sym, arith}
+use Rattle.std.proofs.Common.{◌-◌, ◌∙◌, ap, sym, arith}
 use Rattle.etx_state.specs.Saves.{here}
 use Rattle.etx_state.proofs.Stored.{kind_sized, kind_here, kind_step}
 use Rattle.etx_state.proofs.saves.last_kind.Goals as goal

@@ -1,5 +1,5 @@
-use Rattle.std.proofs.Common.{◌≡◌, sym, ap, subst, ◌∷◌}
-use Rattle.etx_state.specs.Saves.{here, sizes_in, items_in}
+use Rattle.std.proofs.Common.{sym, ap}
+use Rattle.etx_state.specs.Saves.{here}
 use Rattle.etx_state.proofs.Stored.{pushed_items, whole_stack, whole_pushed, sound_here}
 use Rattle.etx_state.proofs.saves.push.Goals as goal
 

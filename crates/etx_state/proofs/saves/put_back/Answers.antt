@@ -1,5 +1,5 @@
-use Rattle.std.proofs.Common.{◌≡◌, ◌≢◌, sym, ap, subst, ◌∙◌, arith}
-use Rattle.etx_state.specs.Saves.{here, items_of, cells_of, depth_of, IsTied}
+use Rattle.std.proofs.Common.{◌≡◌, sym, ap, subst, ◌∙◌}
+use Rattle.etx_state.specs.Saves.{items_of, cells_of, depth_of, IsTied}
 use Rattle.etx_state.proofs.Refine.{back_other, back_here}
 use Rattle.etx_state.proofs.Stored.{sound_here, tied_backed, top_fits}
 use Rattle.etx_state.proofs.saves.put_back.Goals as goal

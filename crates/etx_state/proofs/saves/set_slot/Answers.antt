@@ -1,4 +1,4 @@
-use Rattle.etx_state.specs.Saves.{here, set_in}
+use Rattle.etx_state.specs.Saves.{here}
 use Rattle.etx_state.proofs.Stored.{sound_set}
 use Rattle.etx_state.proofs.saves.set_slot.Goals as goal
 

@@ -1,4 +1,4 @@
-use Rattle.std.proofs.Common.{◌≡◌, ◌+◌, ◌-◌, Some, sym, ap, ◌∙◌, arith}
+use Rattle.std.proofs.Common.{◌-◌, Some, sym, ap, ◌∙◌, arith}
 use Rattle.etx_state.specs.Saves.{here}
 use Rattle.etx_state.proofs.Stored.{top_none, top_some}
 use Rattle.etx_state.proofs.saves.top.Goals as goal

@@ -1,5 +1,3 @@
-use Rattle.std.proofs.Common.{sym, subst}
-use Rattle.etx_state.specs.Saves.{here, items_of, cells_of, tail_of, IsTied}
 use Rattle.etx_state.proofs.Stored.{sound_here, tied_undone}
 use Rattle.etx_state.proofs.saves.undo.Goals as goal
 

@@ -1,4 +1,4 @@
-use Rattle.std.proofs.Common.{◌≡◌, sym, nat_eq}
+use Rattle.std.proofs.Common.{sym, nat_eq}
 use Rattle.std.specs.Cmp.Lexicographic.{pointwise, bytes_decides}
 use Rattle.etx_state.proofs.Naming.{found, fresh}
 use Rattle.etx_state.proofs.names.Names.find.Goals as goal

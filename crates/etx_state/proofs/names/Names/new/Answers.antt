@@ -1,4 +1,4 @@
-use Rattle.std.proofs.Common.{arith, List}
+use Rattle.std.proofs.Common.{arith}
 use Rattle.etx_state.proofs.Naming.{apart_empty}
 use Rattle.etx_state.proofs.names.Names.new.Goals as goal
 

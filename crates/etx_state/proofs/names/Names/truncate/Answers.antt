@@ -1,4 +1,3 @@
-use Rattle.std.proofs.Common.{◌≡◌, List}
 use Rattle.etx_state.proofs.Naming.{taken, taken_invariant}
 use Rattle.etx_state.proofs.names.Names.truncate.Goals as goal
 

@@ -1,5 +1,3 @@
-use Rattle.std.proofs.Common.{◌≡◌}
-use Rattle.etx_state.specs.Saves.{values_in}
 use Rattle.etx_state.proofs.Stored.{sound_forgot}
 use Rattle.etx_state.proofs.Words.{values_forgot}
 use Rattle.etx_state.proofs.scopes.Scopes.forget.Goals as goal

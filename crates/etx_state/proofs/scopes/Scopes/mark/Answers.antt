@@ -1,5 +1,5 @@
 use Rattle.std.proofs.Common.{ap, ◌∙◌, arith}
-use Rattle.etx_state.specs.Saves.{values_in_at, IsKeptIn, values_in}
+use Rattle.etx_state.specs.Saves.{values_in_at}
 use Rattle.etx_state.proofs.Words.{at_mark, is_kept}
 use Rattle.etx_state.proofs.scopes.Scopes.mark.Goals as goal
 

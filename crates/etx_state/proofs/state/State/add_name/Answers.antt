@@ -1,4 +1,4 @@
-use Rattle.std.proofs.Common.{◌≡◌, sym, subst}
+use Rattle.std.proofs.Common.{sym, subst}
 use Rattle.etx_state.specs.Naming.{IsApart}
 use Rattle.etx_state.proofs.Naming.{apart_pushed}
 use Rattle.etx_state.proofs.state.State.add_name.Goals as goal

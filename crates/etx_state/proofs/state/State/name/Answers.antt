@@ -1,4 +1,3 @@
-use Rattle.std.proofs.Common.{◌≡◌}
 use Rattle.etx_state.specs.Naming.{IsFresh}
 use Rattle.etx_state.proofs.state.State.name.Goals as goal
 

@@ -1,4 +1,3 @@
-use Rattle.std.proofs.Common.{◌≡◌}
 use Rattle.etx_state.proofs.Naming.{fresh_none}
 use Rattle.etx_state.proofs.state.State.open.Goals as goal
 
