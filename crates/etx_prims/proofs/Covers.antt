@@ -1,8 +1,8 @@
 -- Each primitive stands in the table of the look-up: at which place.
 use Rattle.std.proofs.Common.{refl, lit<, Contains}
 use Rattle.etx_prims.specs.declared.table.TheConstants.{SORTED}
-use Rattle.etx_prims.specs.declared.primitive.Prim.{Prim}
-use Rattle.etx_prims.specs.declared.primitive.Prim.TheVariants as prims
+use Rattle.etx_prims.specs.declared.command.Primitive.{Primitive}
+use Rattle.etx_prims.specs.declared.command.Primitive.TheVariants as prims
 use Rattle.etx_prims.specs.declared.parameters.IntParam.{IntParam}
 use Rattle.etx_prims.specs.declared.parameters.IntParam.TheVariants as ints
 use Rattle.etx_prims.specs.declared.parameters.DimenParam.{DimenParam}
@@ -588,7 +588,7 @@ Contains-EqNo : (kind : EqNoKind) → Contains SORTED (prims.EqNo kind)
 Contains-EqNo eq_nos.Right = (76, lit< tt, refl)
 Contains-EqNo eq_nos.Left = (176, lit< tt, refl)
 
-pub Contains-SORTED : (primitive : Prim) → Contains SORTED primitive
+pub Contains-SORTED : (primitive : Primitive) → Contains SORTED primitive
 Contains-SORTED (prims.Expand kind) = Contains-Expand kind
 Contains-SORTED (prims.Input kind) = Contains-Input kind
 Contains-SORTED (prims.Conditional kind) = Contains-Conditional kind

@@ -1,8 +1,8 @@
 -- The names of the table of the look-up rise.
 use Rattle.std.proofs.Common.{◌≡◌, true, refl, get_or, drop}
 use Rattle.etx_prims.specs.declared.table.TheConstants.{SORTED}
-use Rattle.etx_prims.specs.declared.primitive.Prim.{Prim}
-use Rattle.etx_prims.specs.declared.primitive.Prim.TheVariants as prims
+use Rattle.etx_prims.specs.declared.command.Primitive.{Primitive}
+use Rattle.etx_prims.specs.declared.command.Primitive.TheVariants as prims
 use Rattle.etx_prims.specs.Parameters.{int_param_name, dimen_param_name, glue_param_name, mu_glue_param_name, token_param_name}
 use Rattle.etx_prims.specs.Expansion.{expand_name, input_name, if_name, fi_or_else_name, convert_name, the_name, mark_name, class_mark_name}
 use Rattle.etx_prims.specs.Quantities.{register_name, register_definer_name, code_name, font_int_name, family_font_name, box_dimen_name, aux_name, page_int_name, page_dimen_name, last_item_name, read_only_int_name, font_char_name, par_shape_item_name, glue_part_name, glue_conversion_name, expression_name}

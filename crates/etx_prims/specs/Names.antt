@@ -1,7 +1,7 @@
 -- The name of each primitive, as bytes without the escape character: one line for each family.
 use Rattle.std.specs.Prelude.{ℕ, List, codes}
-use Rattle.etx_prims.specs.declared.primitive.Prim.{Prim}
-use Rattle.etx_prims.specs.declared.primitive.Prim.TheVariants as prims
+use Rattle.etx_prims.specs.declared.command.Primitive.{Primitive}
+use Rattle.etx_prims.specs.declared.command.Primitive.TheVariants as prims
 use Rattle.etx_prims.specs.Parameters.{int_param_name, dimen_param_name, glue_param_name, mu_glue_param_name, token_param_name}
 use Rattle.etx_prims.specs.Expansion.{expand_name, input_name, if_name, fi_or_else_name, convert_name, the_name, mark_name, class_mark_name}
 use Rattle.etx_prims.specs.Quantities.{register_name, register_definer_name, code_name, font_int_name, family_font_name, box_dimen_name, aux_name, page_int_name, page_dimen_name, last_item_name, read_only_int_name, font_char_name, par_shape_item_name, glue_part_name, glue_conversion_name, expression_name}
@@ -10,7 +10,7 @@ use Rattle.etx_prims.specs.General.{group_edge_name, after_name, case_shift_name
 use Rattle.etx_prims.specs.Material.{make_box_name, horizontal_unbox_name, vertical_unbox_name, hmove_name, vmove_name, leaders_name, horizontal_skip_name, vertical_skip_name, remove_item_name, start_par_name, discretionary_name, mark_class_name, insert_name, end_cell_name}
 use Rattle.etx_prims.specs.Math.{math_style_name, math_component_name, limit_switch_name, fraction_name, left_right_name, eq_no_name}
 
-unfoldable pub name_of : Prim → List ℕ
+unfoldable pub name_of : Primitive → List ℕ
 name_of (prims.Expand kind) = expand_name kind
 name_of (prims.Input kind) = input_name kind
 name_of (prims.Conditional kind) = if_name kind

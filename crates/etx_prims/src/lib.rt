@@ -1,17 +1,17 @@
 //! The primitive commands of the engine, and the table of their names.
 //!
-//! A [`Prim`] is a command as a value: a family, and in most families a payload that says which of its commands it is.
+//! A [`Primitive`] is a command as a value: a family, and in most families a payload that says which of its commands it is.
 //! [`lookup`] finds the command of a name, and [`name_of`] gives the name of a command. Names are strings of bytes
 //! without the escape character. No two commands have one name.
 #![tactic(auto)]
 
 mod assignments;
+mod command;
 mod expansion;
 mod general;
 mod material;
 mod math;
 mod parameters;
-mod primitive;
 mod quantities;
 mod table;
 
@@ -19,6 +19,7 @@ pub use assignments::{
     ArithmeticKind, CharDefKind, DefKind, HyphenDataKind, InteractionKind, LetKind, PrefixKind,
     ReadKind,
 };
+pub use command::{Primitive, name_of};
 pub use expansion::{ConvertKind, ExpandKind, FiOrElseKind, IfKind, InputKind, MarkKind, TheKind};
 pub use general::{
     AfterKind, CaseShiftKind, ExtensionKind, GroupEdge, InStreamKind, MessageKind, ShowKind,
@@ -31,7 +32,6 @@ pub use math::{
     EqNoKind, FractionKind, LeftRightKind, LimitSwitchKind, MathComponentKind, MathStyleKind,
 };
 pub use parameters::{DimenParam, GlueParam, IntParam, MuGlueParam, TokenParam};
-pub use primitive::{Prim, name_of};
 pub use quantities::{
     AuxKind, BoxDimenKind, CodeKind, ExpressionKind, FamilyFontKind, FontCharKind, FontIntKind,
     GlueConversionKind, GluePartKind, LastItemKind, PageDimenKind, PageIntKind, ParShapeItemKind,

@@ -90,13 +90,18 @@ fn finds_no_other_name(rt: HostRuntime) {
 
 #[test]
 fn finds_the_command_of_a_name(rt: HostRuntime) {
-    assert!(rt; matches!(lookup(b"par"), Some(Prim::Par)));
-    assert!(rt; matches!(lookup(b"vfilneg"), Some(Prim::VSkip(SkipKind::FilNeg))));
-    assert!(rt; matches!(lookup(b"ifcase"), Some(Prim::Conditional(IfKind::Case))));
+    assert!(rt; matches!(lookup(b"par"), Some(Primitive::Par)));
+    assert!(rt; matches!(lookup(b"vfilneg"), Some(Primitive::VSkip(SkipKind::FilNeg))));
+    assert!(rt;
+        matches!(
+            lookup(b"ifcase"),
+            Some(Primitive::Conditional(IfKind::Case))
+        )
+    );
     assert!(rt;
         matches!(
             lookup(b"-"),
-            Some(Prim::Discretionary(DiscretionaryKind::Hyphen))
+            Some(Primitive::Discretionary(DiscretionaryKind::Hyphen))
         )
     );
 }

@@ -29,7 +29,7 @@ use std::fmt;
 /// A primitive command, by families: names that differ in the quantity that they read or set, in a direction, in an
 /// order or in a kind alone are one family, with a payload that says which.
 #[derive(Clone, Copy)]
-pub enum Prim {
+pub enum Primitive {
     /// Expanding past a token, keeping one, reading a name, turning a test round.
     Expand(ExpandKind),
     /// Reading a file, ending one, reading tokens again as text.
@@ -230,113 +230,113 @@ pub enum Prim {
 
 /// The name of a primitive, without the escape character. Takes no memory.
 #[tactic(auto, unfolding(crate::specs::Names::name_of))]
-pub fn name_of(primitive: Prim) -> &'static [u8]
+pub fn name_of(primitive: Primitive) -> &'static [u8]
     ensures { result.now ≡ name_of primitive }
 {
     match primitive {
-        Prim::Expand(kind) => kind.name(),
-        Prim::Input(kind) => kind.name(),
-        Prim::Conditional(kind) => kind.name(),
-        Prim::FiOrElse(kind) => kind.name(),
-        Prim::Convert(kind) => kind.name(),
-        Prim::The(kind) => kind.name(),
-        Prim::TopBotMark(kind) => kind.name(),
-        Prim::TopBotMarks(kind) => kind.class_name(),
-        Prim::IntParam(kind) => kind.name(),
-        Prim::DimenParam(kind) => kind.name(),
-        Prim::GlueParam(kind) => kind.name(),
-        Prim::MuGlueParam(kind) => kind.name(),
-        Prim::TokenParam(kind) => kind.name(),
-        Prim::Register(kind) => kind.name(),
-        Prim::Code(kind) => kind.name(),
-        Prim::FontDimen => b"fontdimen",
-        Prim::FontInt(kind) => kind.name(),
-        Prim::FamilyFont(kind) => kind.name(),
-        Prim::Font => b"font",
-        Prim::NullFont => b"nullfont",
-        Prim::ParShape => b"parshape",
-        Prim::BoxDimen(kind) => kind.name(),
-        Prim::Aux(kind) => kind.name(),
-        Prim::PrevGraf => b"prevgraf",
-        Prim::PageInt(kind) => kind.name(),
-        Prim::PageDimen(kind) => kind.name(),
-        Prim::InteractionMode => b"interactionmode",
-        Prim::LastItem(kind) => kind.name(),
-        Prim::ReadOnlyInt(kind) => kind.name(),
-        Prim::FontChar(kind) => kind.name(),
-        Prim::ParShapeItem(kind) => kind.name(),
-        Prim::GluePart(kind) => kind.name(),
-        Prim::GlueConversion(kind) => kind.name(),
-        Prim::Expression(kind) => kind.name(),
-        Prim::Def(kind) => kind.name(),
-        Prim::Let(kind) => kind.name(),
-        Prim::CharDef(kind) => kind.name(),
-        Prim::RegisterDef(kind) => kind.definer_name(),
-        Prim::Read(kind) => kind.name(),
-        Prim::SetBox => b"setbox",
-        Prim::HyphenData(kind) => kind.name(),
-        Prim::Prefix(kind) => kind.name(),
-        Prim::Arithmetic(kind) => kind.name(),
-        Prim::Interaction(kind) => kind.name(),
-        Prim::Relax => b"relax",
-        Prim::Par => b"par",
-        Prim::End => b"end",
-        Prim::EndCsName => b"endcsname",
-        Prim::SemiSimpleGroup(kind) => kind.name(),
-        Prim::After(kind) => kind.name(),
-        Prim::IgnoreSpaces => b"ignorespaces",
-        Prim::CaseShift(kind) => kind.name(),
-        Prim::Message(kind) => kind.name(),
-        Prim::Show(kind) => kind.name(),
-        Prim::InStream(kind) => kind.name(),
-        Prim::Extension(kind) => kind.name(),
-        Prim::MakeBox(kind) => kind.name(),
-        Prim::UnHBox(kind) => kind.horizontal_name(),
-        Prim::UnVBox(kind) => kind.vertical_name(),
-        Prim::HMove(kind) => kind.name(),
-        Prim::VMove(kind) => kind.name(),
-        Prim::ShipOut => b"shipout",
-        Prim::Leaders(kind) => kind.name(),
-        Prim::HRule => b"hrule",
-        Prim::VRule => b"vrule",
-        Prim::HSkip(kind) => kind.horizontal_name(),
-        Prim::VSkip(kind) => kind.vertical_name(),
-        Prim::MSkip => b"mskip",
-        Prim::Kern => b"kern",
-        Prim::MKern => b"mkern",
-        Prim::Penalty => b"penalty",
-        Prim::RemoveItem(kind) => kind.name(),
-        Prim::StartPar(kind) => kind.name(),
-        Prim::Char => b"char",
-        Prim::Accent => b"accent",
-        Prim::Discretionary(kind) => kind.name(),
-        Prim::ItalicCorrection => b"/",
-        Prim::Mark(kind) => kind.name(),
-        Prim::Insert(kind) => kind.name(),
-        Prim::NoBoundary => b"noboundary",
-        Prim::ControlSpace => b" ",
-        Prim::HAlign => b"halign",
-        Prim::NoAlign => b"noalign",
-        Prim::Omit => b"omit",
-        Prim::EndCell(kind) => kind.name(),
-        Prim::MathChar => b"mathchar",
-        Prim::Delimiter => b"delimiter",
-        Prim::Radical => b"radical",
-        Prim::MathAccent => b"mathaccent",
-        Prim::MathChoice => b"mathchoice",
-        Prim::MathStyle(kind) => kind.name(),
-        Prim::MathComponent(kind) => kind.name(),
-        Prim::LimitSwitch(kind) => kind.name(),
-        Prim::VCenter => b"vcenter",
-        Prim::Fraction(kind) => kind.name(),
-        Prim::LeftRight(kind) => kind.name(),
-        Prim::EqNo(kind) => kind.name(),
-        Prim::NonScript => b"nonscript",
+        Primitive::Expand(kind) => kind.name(),
+        Primitive::Input(kind) => kind.name(),
+        Primitive::Conditional(kind) => kind.name(),
+        Primitive::FiOrElse(kind) => kind.name(),
+        Primitive::Convert(kind) => kind.name(),
+        Primitive::The(kind) => kind.name(),
+        Primitive::TopBotMark(kind) => kind.name(),
+        Primitive::TopBotMarks(kind) => kind.class_name(),
+        Primitive::IntParam(kind) => kind.name(),
+        Primitive::DimenParam(kind) => kind.name(),
+        Primitive::GlueParam(kind) => kind.name(),
+        Primitive::MuGlueParam(kind) => kind.name(),
+        Primitive::TokenParam(kind) => kind.name(),
+        Primitive::Register(kind) => kind.name(),
+        Primitive::Code(kind) => kind.name(),
+        Primitive::FontDimen => b"fontdimen",
+        Primitive::FontInt(kind) => kind.name(),
+        Primitive::FamilyFont(kind) => kind.name(),
+        Primitive::Font => b"font",
+        Primitive::NullFont => b"nullfont",
+        Primitive::ParShape => b"parshape",
+        Primitive::BoxDimen(kind) => kind.name(),
+        Primitive::Aux(kind) => kind.name(),
+        Primitive::PrevGraf => b"prevgraf",
+        Primitive::PageInt(kind) => kind.name(),
+        Primitive::PageDimen(kind) => kind.name(),
+        Primitive::InteractionMode => b"interactionmode",
+        Primitive::LastItem(kind) => kind.name(),
+        Primitive::ReadOnlyInt(kind) => kind.name(),
+        Primitive::FontChar(kind) => kind.name(),
+        Primitive::ParShapeItem(kind) => kind.name(),
+        Primitive::GluePart(kind) => kind.name(),
+        Primitive::GlueConversion(kind) => kind.name(),
+        Primitive::Expression(kind) => kind.name(),
+        Primitive::Def(kind) => kind.name(),
+        Primitive::Let(kind) => kind.name(),
+        Primitive::CharDef(kind) => kind.name(),
+        Primitive::RegisterDef(kind) => kind.definer_name(),
+        Primitive::Read(kind) => kind.name(),
+        Primitive::SetBox => b"setbox",
+        Primitive::HyphenData(kind) => kind.name(),
+        Primitive::Prefix(kind) => kind.name(),
+        Primitive::Arithmetic(kind) => kind.name(),
+        Primitive::Interaction(kind) => kind.name(),
+        Primitive::Relax => b"relax",
+        Primitive::Par => b"par",
+        Primitive::End => b"end",
+        Primitive::EndCsName => b"endcsname",
+        Primitive::SemiSimpleGroup(kind) => kind.name(),
+        Primitive::After(kind) => kind.name(),
+        Primitive::IgnoreSpaces => b"ignorespaces",
+        Primitive::CaseShift(kind) => kind.name(),
+        Primitive::Message(kind) => kind.name(),
+        Primitive::Show(kind) => kind.name(),
+        Primitive::InStream(kind) => kind.name(),
+        Primitive::Extension(kind) => kind.name(),
+        Primitive::MakeBox(kind) => kind.name(),
+        Primitive::UnHBox(kind) => kind.horizontal_name(),
+        Primitive::UnVBox(kind) => kind.vertical_name(),
+        Primitive::HMove(kind) => kind.name(),
+        Primitive::VMove(kind) => kind.name(),
+        Primitive::ShipOut => b"shipout",
+        Primitive::Leaders(kind) => kind.name(),
+        Primitive::HRule => b"hrule",
+        Primitive::VRule => b"vrule",
+        Primitive::HSkip(kind) => kind.horizontal_name(),
+        Primitive::VSkip(kind) => kind.vertical_name(),
+        Primitive::MSkip => b"mskip",
+        Primitive::Kern => b"kern",
+        Primitive::MKern => b"mkern",
+        Primitive::Penalty => b"penalty",
+        Primitive::RemoveItem(kind) => kind.name(),
+        Primitive::StartPar(kind) => kind.name(),
+        Primitive::Char => b"char",
+        Primitive::Accent => b"accent",
+        Primitive::Discretionary(kind) => kind.name(),
+        Primitive::ItalicCorrection => b"/",
+        Primitive::Mark(kind) => kind.name(),
+        Primitive::Insert(kind) => kind.name(),
+        Primitive::NoBoundary => b"noboundary",
+        Primitive::ControlSpace => b" ",
+        Primitive::HAlign => b"halign",
+        Primitive::NoAlign => b"noalign",
+        Primitive::Omit => b"omit",
+        Primitive::EndCell(kind) => kind.name(),
+        Primitive::MathChar => b"mathchar",
+        Primitive::Delimiter => b"delimiter",
+        Primitive::Radical => b"radical",
+        Primitive::MathAccent => b"mathaccent",
+        Primitive::MathChoice => b"mathchoice",
+        Primitive::MathStyle(kind) => kind.name(),
+        Primitive::MathComponent(kind) => kind.name(),
+        Primitive::LimitSwitch(kind) => kind.name(),
+        Primitive::VCenter => b"vcenter",
+        Primitive::Fraction(kind) => kind.name(),
+        Primitive::LeftRight(kind) => kind.name(),
+        Primitive::EqNo(kind) => kind.name(),
+        Primitive::NonScript => b"nonscript",
     }
 }
 
 /// Two commands are equal exactly where they are the same command, which is where their names are equal.
-impl PartialEq for Prim {
+impl PartialEq for Primitive {
     ghost use Rattle.std.specs.Prelude.{◌↔◌, IsTrue, nat_eq};
     ghost use Rattle.std.specs.Cmp.{partial_equiv_from_equiv};
     ghost use Rattle.std.specs.Cmp.Lexicographic.{pointwise, on_texts_equal};
@@ -345,7 +345,7 @@ impl PartialEq for Prim {
 
     ghost laws = { partial_equiv_from_equiv (on_texts_equal name_of) };
 
-    fn eq(&self, other: &Prim) -> bool
+    fn eq(&self, other: &Primitive) -> bool
         ensures by_names { result ≡ pointwise nat_eq (name_of self.now) (name_of other.now) }
         ensures same { IsTrue result ↔ (self.now ≡ other.now) }
     {
@@ -353,15 +353,15 @@ impl PartialEq for Prim {
     }
 }
 
-impl Eq for Prim {
+impl Eq for Primitive {
     ghost use Rattle.std.specs.Cmp.Lexicographic.{on_texts_equal};
 
     ghost laws = { on_texts_equal name_of };
 }
 
 /// Shows the name.
-impl fmt::Debug for Prim {
+impl fmt::Debug for Primitive {
     fn fmt<W: fmt::Write>(&self, f: &mut fmt::Formatter<W>) -> fmt::Result {
-        f.write_str(str::from_utf8(name_of(*self)).unwrap_or("Prim"))
+        f.write_str(str::from_utf8(name_of(*self)).unwrap_or("Primitive"))
     }
 }

@@ -1,0 +1,7 @@
+pub mod Fitting
+pub mod Keys
+pub mod Marks
+pub mod Naming
+pub mod Refine
+pub mod Stored
+pub mod Words
