@@ -1,12 +1,11 @@
 -- An argument, token by token.
-use Rattle.std.proofs.Common.{◌≡◌, ℕ, zero, suc, ◌<◌, ◌≤◌, ◌+◌, ◌-◌, Bool, true, false, List, [], ◌∷◌, ◌++◌, Option, Some, None, Result, Ok, Err, ◌⊎◌, inl, inr, length, refl, sym, ap, subst, ◌∙◌, arith}
+use Rattle.std.proofs.Common.{◌≡◌, ℕ, suc, ◌<◌, ◌-◌, Bool, true, false, List, [], ◌∷◌, ◌++◌, Option, Some, ◌⊎◌, inl, inr, length, refl, sym, ap, subst, ◌∙◌, arith}
 use Rattle.std.proofs.lemmas.List.{append-nil, append_assoc, append_cancel_right, same_from_push}
 use Rattle.etx_matter.specs.declared.token.Token.{Token}
-use Rattle.etx_macros.specs.declared.argument.Turn.{Turn}
 use Rattle.etx_macros.specs.declared.argument.Turn.TheVariants as turn
-use Rattle.etx_macros.specs.Marks.{has_category, is_space, is_par, behind, depth_of, IsBalanced}
-use Rattle.etx_macros.specs.Calls.{IsGroup, Gives, EndsInside, ParsAreAllowed, AreSpaces, IsPlain, IsItem, IsUndelimited, IsDelimited}
-use Rattle.etx_macros.specs.Matching.{IsFound, undelimited_turn, delimited_turn}
+use Rattle.etx_macros.specs.Marks.{is_space, is_par, behind, depth_of, IsBalanced}
+use Rattle.etx_macros.specs.Calls.{IsGroup, Gives, EndsInside, ParsAreAllowed, AreSpaces, IsPlain, IsUndelimited, IsDelimited}
+use Rattle.etx_macros.specs.Matching.{IsFound, undelimited_turn}
 use Rattle.etx_macros.specs.Within.{InGroup, InDelimited, Within}
 use Rattle.etx_macros.proofs.Depths.{depth_push}
 use Rattle.etx_macros.proofs.Turns.{IsLast, found_turn, keep_turn, skip_turn, stays_flat, closes_group, opens_group, inside_group}

@@ -1,8 +1,8 @@
 -- How deep in braces a text is, token by token.
-use Rattle.std.proofs.Common.{◌≡◌, ℕ, zero, suc, ◌<◌, ◌≤◌, ◌+◌, ◌-◌, Bool, true, false, cond, List, [], ◌∷◌, ◌++◌, Option, Some, None, length, get_or, take, drop, refl, sym, ap, subst, ◌∙◌, arith}
+use Rattle.std.proofs.Common.{◌≡◌, ℕ, zero, suc, ◌<◌, ◌≤◌, ◌+◌, ◌-◌, Bool, true, false, cond, List, [], ◌∷◌, ◌++◌, Option, Some, None, length, get_or, take, drop, refl, sym, ap, ◌∙◌, arith}
 use Rattle.std.specs.Bool.{MatchBool}
 use Rattle.std.proofs.lemmas.Bool.{false≢true}
-use Rattle.std.proofs.lemmas.List.{take-append-drop, drop_more, drop_all, get_or_at, take_at, length-append, append_assoc}
+use Rattle.std.proofs.lemmas.List.{take-append-drop, drop_more, drop_all, get_or_at, take_at, length-append}
 use Rattle.etx_matter.specs.declared.token.Token.{Token}
 use Rattle.etx_macros.specs.Marks.{has_category, closed, behind, behind_all, depth_of, IsBalanced}
 use Rattle.etx_macros.specs.Calls.{IsGroup, inner_of}

@@ -1,23 +1,21 @@
 -- The match of a call, step by step.
-use Rattle.std.proofs.Common.{Result, Ok, Err, IfOk, drop, ◌≡◌, ℕ, zero, suc, ◌<◌, ◌≤◌, ◌+◌, ◌-◌, Bool, true, false, eqb, cond, List, [], ◌∷◌, ◌++◌, Option, Some, None, ◌⊎◌, inl, inr, length, get_or, take, refl, sym, ap, subst, ◌∙◌, arith, add-one}
+use Rattle.std.proofs.Common.{Result, Ok, Err, IfOk, drop, ◌≡◌, ℕ, ◌<◌, ◌≤◌, ◌+◌, Bool, true, false, eqb, cond, List, [], ◌∷◌, ◌++◌, Option, Some, ◌⊎◌, inl, inr, length, get_or, take, refl, sym, ap, subst, ◌∙◌, arith}
 use Rattle.std.proofs.lemmas.List.{append-nil, append_assoc, take_more, take_all, take_at, length-append, get_or_at, nil_from_length}
 use Rattle.std.proofs.lemmas.Option.{slice_get_within, get_or_from_slice_get, slice_get-get_or}
 use Rattle.std.specs.Prelude.{slice_get}
 use Rattle.std.specs.declared.alloc.AllocError.{AllocError}
 use Rattle.std.proofs.lemmas.Bool.{eqb-true, eqb-false}
 use Rattle.etx_matter.specs.declared.token.Token.{Token}
-use Rattle.etx_macros.specs.declared.argument.Turn.{Turn}
 use Rattle.etx_macros.specs.declared.argument.Turn.TheVariants as turn
 use Rattle.etx_macros.specs.declared.fault.Fed.{Fed}
 use Rattle.etx_macros.specs.declared.fault.Fed.TheVariants.{More, Done}
 use Rattle.etx_macros.specs.declared.matcher.Matcher.{Matcher}
-use Rattle.etx_macros.specs.Marks.{has_category, is_space, is_par, behind, depth_of, IsBalanced}
-use Rattle.etx_macros.specs.Calls.{Gives, EndsInside, ParsAreAllowed, AreSpaces, IsUndelimited, IsDelimited, IsArgument, MatchesCall, text_before, with_argument}
-use Rattle.etx_macros.specs.Matching.{said_at, IsFound, undelimited_turn, delimited_turn}
-use Rattle.etx_macros.specs.Within.{InGroup, InDelimited, Within}
-use Rattle.etx_macros.specs.Progress.{InText, InArgument, IsGoing, IsDone, IsAfter, IsWhole, Means, IsCause, IsAbsorbed, IsUnfound, EndsArgument, IsStart}
+use Rattle.etx_macros.specs.Marks.{is_par, behind, IsBalanced}
+use Rattle.etx_macros.specs.Calls.{Gives, EndsInside, IsDelimited, IsArgument, MatchesCall, text_before, with_argument}
+use Rattle.etx_macros.specs.Matching.{said_at, IsFound, undelimited_turn}
+use Rattle.etx_macros.specs.Within.{InDelimited, Within}
+use Rattle.etx_macros.specs.Progress.{InText, InArgument, IsAfter, IsWhole, Means, IsCause, IsAbsorbed, IsUnfound, EndsArgument, IsStart}
 use Rattle.etx_macros.specs.declared.fault.MatchFault.{MatchFault}
-use Rattle.etx_macros.specs.declared.fault.MatchFault.TheVariants.{DoesNotMatch, ParagraphEnded, ExtraBrace}
 use Rattle.etx_macros.proofs.Turns.{Faulty}
 use Rattle.etx_macros.proofs.Arguments.{spaces_push, bare_skip, bare_keep, bare_found, delimited_found, delimited_more, within_start}
 

@@ -1,5 +1,5 @@
 -- A parameter text, step by step.
-use Rattle.std.proofs.Common.{◌≡◌, ℕ, suc, ◌<◌, ◌≤◌, ◌+◌, Bool, true, false, eqb, cond, List, [], ◌∷◌, ◌++◌, Result, Ok, Err, IfOk, length, get_or, drop, refl, sym, ap, ◌∙◌, arith, append_assoc, rules, subst}
+use Rattle.std.proofs.Common.{◌≡◌, ℕ, suc, ◌≤◌, ◌+◌, true, false, eqb, cond, List, [], ◌∷◌, ◌++◌, Result, Ok, Err, IfOk, length, drop, refl, sym, ap, ◌∙◌, arith, append_assoc, subst}
 use Rattle.std.proofs.lemmas.List.{append-nil, drop-drop, length-drop, length-append}
 use Rattle.std.proofs.lemmas.Grind.{common_steps}
 use Rattle.etx_matter.specs.declared.token.Token.{Token}
@@ -8,7 +8,7 @@ use Rattle.etx_macros.specs.declared.pattern.PatternFault.{PatternFault}
 use Rattle.etx_macros.specs.declared.pattern.PatternFault.TheVariants.{BadNumber, TooManyParameters, OutOfMemory}
 use Rattle.etx_macros.specs.declared.pattern.Next.{Next}
 use Rattle.etx_macros.specs.declared.pattern.Next.TheVariants.{End, Text, Parameter, Brace}
-use Rattle.etx_macros.specs.ParameterText.{IsFaultOf, Split, split, Parts, parts_of, is_digit, with_token, with_part, joined, listed, pattern_of, wrong_number, numbered, behind_mark, number_of, last_of, behind_of, next_of, parts_by, HasRoom}
+use Rattle.etx_macros.specs.ParameterText.{IsFaultOf, split, Parts, parts_of, is_digit, with_token, with_part, joined, listed, pattern_of, wrong_number, numbered, behind_mark, number_of, last_of, next_of, parts_by, HasRoom}
 
 -- a numbered parameter
 numbered_by : (n : ℕ) (t u : Token) (rest : List Token) → numbered n u (parts_of (suc n) rest) ≡ parts_by n (t ∷ u ∷ rest) (number_of n u)

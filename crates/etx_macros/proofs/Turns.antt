@@ -1,11 +1,11 @@
 -- What a turn says of its token.
-use Rattle.std.proofs.Common.{◌≡◌, ℕ, zero, suc, ◌<◌, ◌≤◌, ◌+◌, Bool, true, false, not, ◌&&◌, eqb, cond, Option, Some, None, Result, Ok, Err, ◌⊎◌, inl, inr, refl, sym, ap, ◌∙◌, arith}
+use Rattle.std.proofs.Common.{◌≡◌, ℕ, zero, suc, ◌<◌, Bool, true, false, not, ◌&&◌, eqb, cond, Option, Some, None, Result, Ok, Err, ◌⊎◌, inl, inr, refl, ap, arith}
 use Rattle.std.proofs.lemmas.Bool.{false≢true, eqb-true}
 use Rattle.etx_matter.specs.declared.token.Token.{Token}
 use Rattle.etx_macros.specs.declared.argument.Turn.{Turn}
 use Rattle.etx_macros.specs.declared.argument.Turn.TheVariants as turn
 use Rattle.etx_macros.specs.declared.fault.MatchFault.{MatchFault}
-use Rattle.etx_macros.specs.declared.fault.MatchFault.TheVariants.{DoesNotMatch, ParagraphEnded, ExtraBrace}
+use Rattle.etx_macros.specs.declared.fault.MatchFault.TheVariants.{ParagraphEnded, ExtraBrace}
 use Rattle.etx_macros.specs.Marks.{has_category, is_space, is_par, closed, behind}
 use Rattle.etx_macros.specs.Matching.{undelimited_behind, delimited_behind, undelimited_turn, delimited_turn}
 
@@ -175,12 +175,14 @@ pub undelimited_fault : (depth : ℕ) (long : Bool) (t : Token) (f : MatchFault)
 unfolding undelimited_turn
 undelimited_fault depth long t f e =
     elim (fault_shape (eqb depth 0 && is_space t) (not long && is_par t) (behind t depth) f e) [
-      inl h ↦ let p = par_here long (is_par t) h.1 in inl (h.0, p.0, p.1, tt)
-    | inr h ↦ let b = closes_none t depth h.1 in inr (h.0, b.0, b.1) ]
+      | inl h ↦ let p = par_here long (is_par t) h.1 in inl (h.0, p.0, p.1, tt)
+      | inr h ↦ let b = closes_none t depth h.1 in inr (h.0, b.0, b.1)
+    ]
 
 pub delimited_fault : (inside : Bool) (depth : ℕ) (long : Bool) (t : Token) (f : MatchFault) → delimited_turn inside depth long t ≡ Err f → Faulty f depth long t (inside ≡ false)
 unfolding delimited_turn
 delimited_fault inside depth long t f e =
     elim (delimited_err ((not long && is_par t) && not inside) (behind t depth) f e) [
-      inl h ↦ let p = three_here long (is_par t) inside h.1 in inl (h.0, p.0, p.1, p.2)
-    | inr h ↦ let b = closes_none t depth h.1 in inr (h.0, b.0, b.1) ]
+      | inl h ↦ let p = three_here long (is_par t) inside h.1 in inl (h.0, p.0, p.1, p.2)
+      | inr h ↦ let b = closes_none t depth h.1 in inr (h.0, b.0, b.1)
+    ]

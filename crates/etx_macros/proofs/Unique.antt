@@ -1,10 +1,10 @@
 -- A text begins with one call of a pattern at most.
-use Rattle.std.proofs.Common.{◌≡◌, ℕ, zero, suc, ◌<◌, ◌≤◌, ◌+◌, ◌-◌, Bool, true, false, ◌&&◌, eqb, List, [], ◌∷◌, ◌++◌, Option, Some, None, ◌⊎◌, inl, inr, length, refl, sym, ap, subst, ◌∙◌, arith}
+use Rattle.std.proofs.Common.{◌≡◌, ℕ, ◌<◌, ◌≤◌, Bool, true, false, ◌&&◌, eqb, List, [], ◌∷◌, ◌++◌, Option, Some, None, ◌⊎◌, inl, inr, length, refl, sym, ap, subst, ◌∙◌, arith}
 use Rattle.std.proofs.lemmas.Bool.{cases_lt, eqb-true, false≢true}
 use Rattle.std.proofs.lemmas.List.{append-nil, append_assoc, append_cancel_left, append_cancel_right, same_from_push, length-append, nil_from_length}
 use Rattle.etx_matter.specs.declared.token.Token.{Token}
 use Rattle.etx_matter.specs.declared.token.Token.TheVariants.{Char, Name, Param}
-use Rattle.etx_macros.specs.Marks.{has_category, is_space, closed, behind, behind_all, depth_of, IsBalanced}
+use Rattle.etx_macros.specs.Marks.{has_category, is_space, behind, behind_all, depth_of, IsBalanced}
 use Rattle.etx_macros.specs.Calls.{IsGroup, Gives, AreSpaces, IsPlain, IsItem, IsUndelimited, IsDelimited, IsArgument, MatchesCall, text_before, with_argument}
 use Rattle.etx_macros.proofs.Depths.{behind_append, depth_push, group_inner}
 
@@ -34,8 +34,9 @@ shorter_delimited long d p q a b x y g h e l =
 
 delimited_texts : (long : Bool) (d p q a b x y : List Token) → IsDelimited long d p a → IsDelimited long d q b → p ++ x ≡ q ++ y → p ≡ q
 delimited_texts long d p q a b x y g h e = elim (cases_lt (length p) (length q)) [
-    inl l ↦ shorter_delimited long d p q a b x y g h e (omega arith)
-  | inr l ↦ sym (shorter_delimited long d q p b a y x h g (sym e) l) ]
+  | inl l ↦ shorter_delimited long d p q a b x y g h e (omega arith)
+  | inr l ↦ sym (shorter_delimited long d q p b a y x h g (sym e) l)
+]
 
 delimited_same : (long : Bool) (d p q a b x y : List Token) → IsDelimited long d p a → IsDelimited long d q b → p ++ x ≡ q ++ y → (p ≡ q) × (a ≡ b)
 delimited_same long d p q a b x y g h e =
@@ -73,8 +74,9 @@ shorter_inner i j x y r s bi bj cr e l =
 
 inner_lengths : (i j x y : List Token) (r s : Token) → IsBalanced i → IsBalanced j → has_category r 2 ≡ true → has_category s 2 ≡ true → i ++ r ∷ x ≡ j ++ s ∷ y → length i ≡ length j
 inner_lengths i j x y r s bi bj cr cs e = elim (cases_lt (length i) (length j)) [
-    inl l ↦ absurd (shorter_inner i j x y r s bi bj cr e l)
-  | inr l ↦ elim (cases_lt (length j) (length i)) [ inl m ↦ absurd (shorter_inner j i y x s r bj bi cs (sym e) m) | inr m ↦ omega arith ] ]
+  | inl l ↦ absurd (shorter_inner i j x y r s bi bj cr e l)
+  | inr l ↦ elim (cases_lt (length j) (length i)) [ inl m ↦ absurd (shorter_inner j i y x s r bj bi cs (sym e) m) | inr m ↦ omega arith ]
+]
 
 -- texts of one length that begin alike are equal
 same_length : (p q x y : List Token) → p ++ x ≡ q ++ y → length p ≡ length q → p ≡ q
@@ -137,11 +139,12 @@ undelimited_same long p q a b x y g h e =
     let he : q ++ y ≡ h.spaces ++ (h.raw ++ y) = ap (λ zs. zs ++ y) h.whole ∙ append_assoc h.spaces h.raw y in
     let f : g.spaces ++ (g.raw ++ x) ≡ h.spaces ++ (h.raw ++ y) = sym ge ∙ e ∙ he in
     let f2 : g.spaces ++ k.head ∷ (k.tail ++ x) ≡ h.spaces ++ l.head ∷ (l.tail ++ y) =
-      sym (ap (λ zs. g.spaces ++ (zs ++ x)) k.whole) ∙ f ∙ ap (λ zs. h.spaces ++ (zs ++ y)) l.whole in
+    sym (ap (λ zs. g.spaces ++ (zs ++ x)) k.whole) ∙ f ∙ ap (λ zs. h.spaces ++ (zs ++ y)) l.whole in
     let s : g.spaces ≡ h.spaces = spaces_same g.spaces h.spaces (k.tail ++ x) (l.tail ++ y) k.head l.head g.are_spaces h.are_spaces k.no_space l.no_space f2 in
-    let r : g.raw ≡ h.raw = items_same g.raw h.raw x y g.item h.item (append_cancel_left h.spaces (g.raw ++ x) (h.raw ++ y) (ap (λ zs. zs ++ (g.raw ++ x)) (sym s) ∙ f)) in
-    (g.whole ∙ ap (λ zs. zs ++ g.raw) s ∙ ap (λ zs. h.spaces ++ zs) r ∙ sym h.whole,
-     gives_same h.raw a b (subst (λ (xs : List Token). Gives xs a) r g.gives) h.gives)
+    let r : g.raw ≡ h.raw = items_same g.raw h.raw x y g.item h.item (append_cancel_left h.spaces (g.raw ++ x) (h.raw ++ y) (ap (λ zs. zs ++ (g.raw ++ x)) (sym s) ∙ f)) in (
+      g.whole ∙ ap (λ zs. zs ++ g.raw) s ∙ ap (λ zs. h.spaces ++ zs) r ∙ sym h.whole,
+      gives_same h.raw a b (subst (λ (xs : List Token). Gives xs a) r g.gives) h.gives,
+    )
 
 argument_same : (long : Bool) (d p q a b x y : List Token) → IsArgument long d p a → IsArgument long d q b → p ++ x ≡ q ++ y → (p ≡ q) × (a ≡ b)
 argument_same long [] p q a b x y g h e = undelimited_same long p q a b x y g h e
@@ -178,15 +181,18 @@ first_only c before e = cc
 
 pub one_call : (long : Bool) (ps : List (List Token)) (c : List Token) (zs : List (List Token)) → MatchesCall long ps c zs → (qs : List (List Token)) (d : List Token) (ys : List (List Token)) (x y : List Token) → MatchesCall long qs d ys → ps ≡ qs → c ++ x ≡ d ++ y → (c ≡ d) × (zs ≡ ys)
 one_call long _ _ _ (text_before before) qs d ys x y m p e = elim (inverse long qs d ys m) [
-    inl h ↦ (first_only d before (p ∙ h.0), sym h.1)
-  | inr h ↦ absurd (omega (arith, ap length (p ∙ h.parts_is), length-append h.parts (h.delimiter ∷ []), some_part long h.parts h.call h.args h.matched)) ]
+  | inl h ↦ (first_only d before (p ∙ h.0), sym h.1)
+  | inr h ↦ absurd (omega (arith, ap length (p ∙ h.parts_is), length-append h.parts (h.delimiter ∷ []), some_part long h.parts h.call h.args h.matched))
+]
 one_call long _ _ _ (with_argument parts args call delimiter text arg m i) qs d ys x y n p e = elim (inverse long qs d ys n) [
-    inl h ↦ absurd (omega (arith, ap length (p ∙ h.0), length-append parts (delimiter ∷ []), some_part long parts call args m))
+  | inl h ↦ absurd (omega (arith, ap length (p ∙ h.0), length-append parts (delimiter ∷ []), some_part long parts call args m))
   | inr h ↦
       let s = same_from_push parts h.parts delimiter h.delimiter (p ∙ h.parts_is) in
       let f : call ++ (text ++ x) ≡ h.call ++ (h.text ++ y) = sym (append_assoc call text x) ∙ e ∙ ap (λ zs. zs ++ y) h.call_is ∙ append_assoc h.call h.text y in
       let o = one_call long parts call args m h.parts h.call h.args (text ++ x) (h.text ++ y) h.matched s.0 f in
       let g : text ++ x ≡ h.text ++ y = append_cancel_left h.call (text ++ x) (h.text ++ y) (ap (λ zs. zs ++ (text ++ x)) (sym o.0) ∙ f) in
-      let a = argument_same long h.delimiter text h.text arg h.arg x y (subst (λ (z : List Token). IsArgument long z text arg) s.1 i) h.argument g in
-      (ap (λ zs. zs ++ text) o.0 ∙ ap (λ zs. h.call ++ zs) a.0 ∙ sym h.call_is,
-       ap (λ zs. zs ++ arg ∷ []) o.1 ∙ ap (λ z. h.args ++ z ∷ []) a.1 ∙ sym h.args_is) ]
+      let a = argument_same long h.delimiter text h.text arg h.arg x y (subst (λ (z : List Token). IsArgument long z text arg) s.1 i) h.argument g in (
+        ap (λ zs. zs ++ text) o.0 ∙ ap (λ zs. h.call ++ zs) a.0 ∙ sym h.call_is,
+        ap (λ zs. zs ++ arg ∷ []) o.1 ∙ ap (λ z. h.args ++ z ∷ []) a.1 ∙ sym h.args_is,
+      )
+]

@@ -1,14 +1,13 @@
 -- The match of a call, token by token.
-use Rattle.std.specs.Prelude.{ℕ, zero, suc, ◌+◌, ◌<◌, ◌≤◌, Bool, true, false, not, ◌&&◌, List, [], ◌∷◌, ◌++◌, Option, Some, None, Result, Ok, Err, ◌≡◌, ◌==◌, ◌⊎◌, length, take, slice_get, if◌then◌else◌}
+use Rattle.std.specs.Prelude.{ℕ, zero, suc, Bool, not, ◌&&◌, List, ◌++◌, Option, Some, None, Result, Ok, Err, ◌≡◌, ◌==◌, if◌then◌else◌}
 use Rattle.etx_matter.specs.declared.token.Token.{Token}
 use Rattle.etx_macros.specs.declared.argument.Turn.{Turn}
 use Rattle.etx_macros.specs.declared.argument.Turn.TheVariants as turn
 use Rattle.etx_macros.specs.declared.fault.Fed.{Fed}
 use Rattle.etx_macros.specs.declared.fault.Fed.TheVariants.{More, Done}
 use Rattle.etx_macros.specs.declared.fault.MatchFault.{MatchFault}
-use Rattle.etx_macros.specs.declared.fault.MatchFault.TheVariants.{DoesNotMatch, ParagraphEnded, ExtraBrace}
-use Rattle.etx_macros.specs.Marks.{has_category, is_space, is_par, behind, depth_of, IsBalanced, EndsWith}
-use Rattle.etx_macros.specs.Calls.{EndsInside, ParsAreAllowed, AreSpaces}
+use Rattle.etx_macros.specs.declared.fault.MatchFault.TheVariants.{ParagraphEnded, ExtraBrace}
+use Rattle.etx_macros.specs.Marks.{is_space, is_par, behind, IsBalanced}
 
 -- the text is balanced up to the delimiter at its end
 abbrev pub IsFound : List Token → List Token → Type 0

@@ -1,5 +1,5 @@
 -- What a macro's parameter text says: the text before the first parameter, then what delimits each parameter.
-use Rattle.std.specs.Prelude.{ℕ, zero, suc, ◌+◌, Bool, true, false, ◌&&◌, List, [], ◌∷◌, ◌++◌, length, drop, ◌≤◌, ◌<◌, Option, Some, None, Result, Ok, Err, ◌==◌, ◌≡◌, if◌then◌else◌}
+use Rattle.std.specs.Prelude.{ℕ, suc, ◌+◌, Bool, false, ◌&&◌, List, [], ◌∷◌, ◌++◌, length, drop, ◌≤◌, ◌<◌, Result, Ok, Err, ◌==◌, ◌≡◌, if◌then◌else◌}
 use Rattle.etx_matter.specs.declared.token.Token.{Token}
 use Rattle.etx_matter.specs.declared.token.Token.TheVariants.{Char, Name, Param}
 use Rattle.etx_macros.specs.declared.pattern.PatternFault.{PatternFault}

@@ -1,13 +1,13 @@
 -- How far the match of a call has come.
-use Rattle.std.specs.Prelude.{ℕ, zero, suc, ◌+◌, ◌<◌, ◌≤◌, Bool, true, false, List, [], ◌∷◌, ◌++◌, Option, Some, None, ◌≡◌, ◌⊎◌, length, take, slice_index_or}
+use Rattle.std.specs.Prelude.{ℕ, ◌+◌, ◌<◌, Bool, true, false, List, [], ◌∷◌, ◌++◌, ◌≡◌, ◌⊎◌, length, take, slice_index_or}
 use Rattle.etx_matter.specs.declared.token.Token.{Token}
 use Rattle.etx_macros.specs.declared.fault.MatchFault.{MatchFault}
 use Rattle.etx_macros.specs.declared.fault.MatchFault.TheVariants.{DoesNotMatch, ParagraphEnded, ExtraBrace}
 use Rattle.etx_macros.specs.declared.fault.Fed.{Fed}
 use Rattle.etx_macros.specs.declared.fault.Fed.TheVariants.{More, Done, Fault, OutOfMemory}
 use Rattle.etx_macros.specs.declared.matcher.Matcher.{Matcher}
-use Rattle.etx_macros.specs.Marks.{has_category, is_par, depth_of, IsBalanced}
-use Rattle.etx_macros.specs.Calls.{ParsAreAllowed, AreSpaces, Gives, EndsInside, MatchesCall}
+use Rattle.etx_macros.specs.Marks.{has_category, is_par}
+use Rattle.etx_macros.specs.Calls.{Gives, EndsInside, MatchesCall}
 use Rattle.etx_macros.specs.Matching.{said_at, IsFound}
 use Rattle.etx_macros.specs.Within.{Within}
 

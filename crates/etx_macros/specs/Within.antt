@@ -1,5 +1,5 @@
 -- The part of an argument that was read.
-use Rattle.std.specs.Prelude.{ℕ, zero, suc, ◌+◌, ◌<◌, ◌≤◌, Bool, true, false, List, [], ◌∷◌, ◌++◌, Option, Some, None, ◌≡◌, ◌⊎◌}
+use Rattle.std.specs.Prelude.{ℕ, suc, Bool, true, List, [], ◌∷◌, ◌++◌, Some, ◌≡◌, ◌⊎◌}
 use Rattle.etx_matter.specs.declared.token.Token.{Token}
 use Rattle.etx_macros.specs.Marks.{has_category, depth_of, IsBalanced}
 use Rattle.etx_macros.specs.Calls.{ParsAreAllowed, AreSpaces}

@@ -1,4 +1,4 @@
-use Rattle.std.proofs.Common.{◌≡◌, ℕ, ◌<◌, ◌+◌, take, sym, ◌∙◌, arith}
+use Rattle.std.proofs.Common.{◌+◌, take, sym, ◌∙◌, arith}
 use Rattle.std.proofs.lemmas.Bool.{false≢true}
 use borrow.Author.Count.{below_more}
 use Rattle.etx_macros.specs.Marks.{EndsWith}

@@ -1,13 +1,11 @@
 -- What a token makes of a delimited argument.
-use Rattle.std.proofs.Common.{◌≡◌, ◌+◌, ◌<◌, ◌++◌, ◌∷◌, [], ℕ, List, Ok, Err, length, inl, inr, sym, ap, subst, ◌∙◌, arith, true, false, Bool, refl}
+use Rattle.std.proofs.Common.{◌≡◌, ◌+◌, ◌++◌, ◌∷◌, [], List, Ok, Err, length, inr, sym, ap, subst, ◌∙◌, arith, false}
 use Rattle.std.proofs.lemmas.Bool.{false≢true}
-use Rattle.std.proofs.lemmas.List.{length_push, length-append}
+use Rattle.std.proofs.lemmas.List.{length_push}
 use Rattle.etx_matter.specs.declared.token.Token.{Token}
 use Rattle.etx_macros.specs.Calls.{Gives, EndsInside}
-use Rattle.etx_macros.specs.Marks.{is_par}
 use Rattle.etx_macros.specs.Matching.{IsFound, delimited_turn}
 use Rattle.etx_macros.specs.Progress.{InArgument, IsAfter, Means, EndsArgument}
-use Rattle.etx_macros.specs.declared.fault.Fed.TheVariants as fed
 use Rattle.etx_macros.proofs.Depths.{behind_bound}
 use Rattle.etx_macros.proofs.Turns.{delimited_fault}
 use Rattle.etx_macros.proofs.Turns as turns
@@ -62,6 +60,6 @@ returns-in-Err-clause-cause c =
     let d : List Token = slice_index_or m.parts m.part [] in
     let ok : c.push.new.self ≡ m.read ++ c.args.token ∷ [] = c.in_ok-push.ensures.ok in
     cause_of m c.args.token c.in-Err.fault (c.is_inside.result ≡ false) c.requires.part
-      (λ some found. false≢true (sym c.if-has_found.false ∙ c.has_found.ensures.1 (subst (λ (r : List Token). IsFound d r) (sym ok) found)))
-      (λ free a. false≢true (sym free ∙ c.is_inside.ensures.1 (a.0, subst (λ (r : List Token). EndsInside r d) (sym ok) a.1)))
-      (delimited_fault c.is_inside.result m.depth m.long c.args.token c.in-Err.fault e)
+    (λ some found. false≢true (sym c.if-has_found.false ∙ c.has_found.ensures.1 (subst (λ (r : List Token). IsFound d r) (sym ok) found)))
+    (λ free a. false≢true (sym free ∙ c.is_inside.ensures.1 (a.0, subst (λ (r : List Token). EndsInside r d) (sym ok) a.1)))
+    (delimited_fault c.is_inside.result m.depth m.long c.args.token c.in-Err.fault e)

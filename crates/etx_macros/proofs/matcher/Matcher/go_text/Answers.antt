@@ -1,11 +1,10 @@
 -- What a token makes of the text before the first parameter.
-use Rattle.std.proofs.Common.{◌≡◌, ◌≤◌, ◌+◌, ◌<◌, ◌++◌, ◌∷◌, [], ℕ, List, Some, length, inl, inr, sym, ap, subst, ◌∙◌, arith, refl}
+use Rattle.std.proofs.Common.{◌≡◌, ◌≤◌, ◌<◌, ◌++◌, ◌∷◌, [], List, Some, length, inl, sym, ap, subst, ◌∙◌, arith, refl}
 use Rattle.std.proofs.lemmas.List.{length_push}
 use Rattle.std.specs.Prelude.{slice_index_or, slice_get}
 use Rattle.etx_matter.specs.declared.token.Token.{Token}
-use Rattle.etx_macros.specs.declared.fault.Fed.{Fed}
 use Rattle.etx_macros.specs.Matching.{said_at}
-use Rattle.etx_macros.specs.Progress.{InText, IsAfter, Means}
+use Rattle.etx_macros.specs.Progress.{InText}
 use Rattle.etx_macros.proofs.Steps.{in_text, text_more, text_matched, after_part, means_by}
 use Rattle.etx_macros.proofs.matcher.Matcher.go_text.Goals as goal
 

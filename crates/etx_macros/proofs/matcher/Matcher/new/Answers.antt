@@ -1,5 +1,5 @@
 -- Where the text before the first parameter is empty, a matcher begins behind it.
-use Rattle.std.proofs.Common.{◌≡◌, ◌<◌, [], List, length, get_or, sym, ap, ◌∙◌, arith}
+use Rattle.std.proofs.Common.{◌≡◌, ◌<◌, [], length, get_or, sym, ap, ◌∙◌, arith}
 use Rattle.std.proofs.lemmas.List.{get_or_read}
 use Rattle.etx_macros.proofs.Steps.{starts_past_text}
 use Rattle.etx_macros.proofs.matcher.Matcher.new.Goals as goal

@@ -5,7 +5,7 @@ use Rattle.etx_macros.specs.declared.pattern.PatternFault.{PatternFault}
 use Rattle.etx_macros.specs.declared.pattern.Next.{Next}
 use Rattle.etx_macros.specs.declared.pattern.Next.TheVariants.{End, Text, Parameter, Brace}
 use Rattle.etx_macros.specs.ParameterText.{next_of, pattern_of, IsFaultOf}
-use Rattle.etx_macros.proofs.Texts.{read_first, read_token, read_brace, read_parameter, read_end, read_fault, fault_of}
+use Rattle.etx_macros.proofs.Texts.{read_token, read_brace, read_parameter, read_end, read_fault, fault_of}
 use Rattle.etx_macros.proofs.pattern.Pattern.read.Goals as goal
 
 abbrev whole : List (List Token) → Result (List (List Token)) PatternFault
