@@ -1,4 +1,4 @@
--- The values that INITEX starts with ("TeX: The Program", sections 232 and 240).
+-- The values that INITEX starts with ("TeX: The Program", sections 232, 240 and 241: a job starts at noon on 4 July 1776).
 use Rattle.std.specs.Prelude.{ℕ, zero, suc, ℤ, pos, ◌==◌, ◌&&◌, ◌||◌, if◌then◌else◌, nat_le}
 use Rattle.etx_prims.specs.declared.parameters.IntParam.{IntParam}
 use Rattle.etx_prims.specs.declared.parameters.IntParam.TheVariants as param
@@ -30,6 +30,10 @@ first_int param.MaxDeadCycles = pos 25
 first_int param.HangAfter = pos 1
 first_int param.EscapeChar = pos 92
 first_int param.EndLineChar = pos 13
+first_int param.Time = pos 720
+first_int param.Day = pos 4
+first_int param.Month = pos 7
+first_int param.Year = pos 1776
 first_int _ = pos 0
 
 -- the name that has number 0 in every job is `par`

@@ -44,6 +44,10 @@ fn first_int(parameter: IntParam) -> &'static Val
         IntParam::HangAfter => &Val::Int(1),
         IntParam::EscapeChar => &Val::Int(92),
         IntParam::EndLineChar => &Val::Int(13),
+        IntParam::Time => &Val::Int(720),
+        IntParam::Day => &Val::Int(4),
+        IntParam::Month => &Val::Int(7),
+        IntParam::Year => &Val::Int(1776),
         _ => &Val::Int(0),
     }
 }
