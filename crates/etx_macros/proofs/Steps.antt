@@ -180,16 +180,22 @@ next_is read (x ∷ rest) text t e h =
     let q : x ≡ t = sym (get_or_at read x rest t (length read) refl) ∙ ap (λ xs. get_or xs (length read) t) (sym e) ∙ r in
     ap (λ y. y ∷ rest) q
 
-pub text_more : (parts args : List (List Token)) (part : ℕ) (read : List Token) (depth : ℕ) (call : List Token) (t : Token) → InText parts args part read depth call → slice_get (get_or parts 0 []) (length read) ≡ Some t → InText parts args part (read ++ t ∷ []) depth (call ++ t ∷ [])
-text_more parts args part read depth call t h s =
+begins_more : (parts args : List (List Token)) (part : ℕ) (read : List Token) (depth : ℕ) (call : List Token) (t : Token) (h : InText parts args part read depth call) → slice_get (get_or parts 0 []) (length read) ≡ Some t → get_or parts 0 [] ≡ (read ++ t ∷ []) ++ drop 1 h.rest
+begins_more parts args part read depth call t h s =
     let n = next_is read h.rest (get_or parts 0 []) t h.begins s in
+    h.begins ∙ ap (λ xs. read ++ xs) n ∙ sym (append_assoc read (t ∷ []) (drop 1 h.rest))
+
+pub text_more : (parts args : List (List Token)) (part : ℕ) (read : List Token) (depth : ℕ) (call : List Token) (t : Token) → InText parts args part read depth call → slice_get (get_or parts 0 []) (length read) ≡ Some t → length read + 1 < length (get_or parts 0 []) → InText parts args part (read ++ t ∷ []) depth (call ++ t ∷ [])
+text_more parts args part read depth call t h s l =
+    let b = begins_more parts args part read depth call t h s in
     record {
       first = h.first;
       no_args = h.no_args;
       flat = h.flat;
       same = ap (λ xs. xs ++ t ∷ []) h.same;
       rest = drop 1 h.rest;
-      begins = h.begins ∙ ap (λ xs. read ++ xs) n ∙ sym (append_assoc read (t ∷ []) (drop 1 h.rest));
+      begins = b;
+      wants = omega (arith, l, ap length b, length-append (read ++ t ∷ []) (drop 1 h.rest), length-append read (t ∷ []));
     }
 
 -- the text is over where it is no longer than what was read
@@ -198,10 +204,12 @@ text_over read rest text e l =
     let z : length rest ≡ 0 = omega (arith, ap length e, length-append read rest) in
     e ∙ ap (λ xs. read ++ xs) (nil_from_length rest z) ∙ append-nil read
 
-pub text_matched : (parts : List (List Token)) (long : Bool) (args : List (List Token)) (part : ℕ) (read : List Token) (depth : ℕ) (call : List Token) → 0 < length parts → InText parts args part read depth call → length (get_or parts 0 []) ≤ length read → MatchesCall long (take 1 parts) call args
-text_matched parts long args part read depth call l h s =
-    let e : get_or parts 0 [] ≡ call = text_over read h.rest (get_or parts 0 []) h.begins s ∙ sym h.same in
-    subst (λ (zs : List (List Token)). MatchesCall long (take 1 parts) call zs) (sym h.no_args)
+pub text_matched : (parts : List (List Token)) (long : Bool) (args : List (List Token)) (part : ℕ) (read : List Token) (depth : ℕ) (call : List Token) (t : Token) → 0 < length parts → InText parts args part read depth call → slice_get (get_or parts 0 []) (length read) ≡ Some t → length (get_or parts 0 []) ≤ length read + 1 → MatchesCall long (take 1 parts) (call ++ t ∷ []) args
+text_matched parts long args part read depth call t l h s n =
+    let b = begins_more parts args part read depth call t h s in
+    let e : get_or parts 0 [] ≡ call ++ t ∷ [] =
+    text_over (read ++ t ∷ []) (drop 1 h.rest) (get_or parts 0 []) b (omega (arith, n, length-append read (t ∷ []))) ∙ sym (ap (λ xs. xs ++ t ∷ []) h.same) in
+    subst (λ (zs : List (List Token)). MatchesCall long (take 1 parts) (call ++ t ∷ []) zs) (sym h.no_args)
     (subst (λ (c : List Token). MatchesCall long (take 1 parts) c []) e (text_end parts long l))
 
 pub not_next : (text read : List Token) (t : Token) → (slice_get text (length read) ≡ Some t → ⊥) → (rest : List Token) → text ≡ (read ++ t ∷ []) ++ rest → ⊥
@@ -224,11 +232,23 @@ starts_past_text m parts long s l e =
     let m4 = subst (λ (zs : List (List Token)). MatchesCall m.long (take m.part m.parts) [] zs) (sym s.args_is) m3 in
     starts_by m.part (length m.parts) m [] (after_part m [] s.failed_is (omega (arith, s.part_is)) (omega (arith, s.part_is, ap length s.parts_is)) m4 s.read_is s.depth_is)
 
-pub starts_in_text : (m : Matcher) (parts : List (List Token)) (long : Bool) → IsStart m parts long 0 → 0 < length parts → IsAfter m [] ⊎ IsWhole m []
-starts_in_text m parts long s l =
+some_length : (xs : List Token) → (xs ≡ [] → ⊥) → 0 < length xs
+some_length [] some = absurd (some refl)
+some_length (x ∷ xs) some = omega arith
+
+pub starts_in_text : (m : Matcher) (parts : List (List Token)) (long : Bool) → IsStart m parts long 0 → 0 < length parts → (get_or parts 0 [] ≡ [] → ⊥) → IsAfter m [] ⊎ IsWhole m []
+starts_in_text m parts long s l some =
     inl (
       record { in_parts = omega (arith, s.part_is, ap length s.parts_is); not_failed = s.failed_is },
-      inl (record { first = s.part_is; no_args = s.args_is; flat = s.depth_is; same = sym s.read_is; rest = get_or m.parts 0 []; begins = ap (λ xs. xs ++ get_or m.parts 0 []) (sym s.read_is) }),
+      inl (record {
+        first = s.part_is;
+        no_args = s.args_is;
+        flat = s.depth_is;
+        same = sym s.read_is;
+        rest = get_or m.parts 0 [];
+        begins = ap (λ xs. xs ++ get_or m.parts 0 []) (sym s.read_is);
+        wants = subst (λ (ps : List (List Token)). 0 < length (get_or ps 0 [])) (sym s.parts_is) (some_length (get_or parts 0 []) some);
+      }),
     )
 
 pub means_by : (f g : Fed) (m : Matcher) (call : List Token) → f ≡ g → Means g m call → Means f m call

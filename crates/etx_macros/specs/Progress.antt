@@ -19,6 +19,7 @@ pub record InText (parts args : List (List Token)) (part : ℕ) (read : List Tok
   pub same : call ≡ read
   pub rest : List Token
   pub begins : slice_index_or parts 0 [] ≡ read ++ rest
+  pub wants : 0 < length rest
 
 -- in an argument: the call so far is one of the parts before, then what was read of the argument
 pub record InArgument (parts : List (List Token)) (long : Bool) (args : List (List Token)) (part : ℕ) (read : List Token) (depth : ℕ) (call : List Token) : Type 0 where
