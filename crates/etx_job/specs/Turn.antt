@@ -42,15 +42,16 @@ line_number_in (Reading input) = input.number
 unfoldable pub line_number_of : Mouth → ℕ
 line_number_of v = line_number_in v.source
 
--- a main file that is over ends the job, inside a command as something that isn't built
+-- A main file that is over ends the job, inside a command as something that isn't built. A `\catcode` is whole once it has a
+-- digit.
 abbrev pub over : Scan → End
 over scan.Commands = Fatal NoLegalEnd
 over scan.CatcodeQuote = Unbuilt
 over scan.CatcodeCharacter = Unbuilt
 over (scan.CatcodeEquals code) = Unbuilt
 over (scan.CatcodeFirst code) = Unbuilt
-over (scan.CatcodeSecond code value) = Unbuilt
-over (scan.CatcodeSpace code value) = Unbuilt
+over (scan.CatcodeSecond code value) = Fatal NoLegalEnd
+over (scan.CatcodeSpace code value) = Fatal NoLegalEnd
 over scan.MessageBrace = Unbuilt
 over (scan.MessageText m) = Unbuilt
 over (scan.Say text) = Unbuilt

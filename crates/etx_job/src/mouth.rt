@@ -55,6 +55,10 @@ fn find_over(scan: &Scan) -> End
 {
     match scan {
         Scan::Commands => End::Fatal(FatalError::NoLegalEnd),
+        // It is whole once it has a digit.
+        Scan::CatcodeSecond(_, _) | Scan::CatcodeSpace(_, _) => {
+            End::Fatal(FatalError::NoLegalEnd)
+        }
         _ => End::Unbuilt,
     }
 }

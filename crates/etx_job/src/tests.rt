@@ -102,6 +102,8 @@ fn a_source_may_lack_its_end(rt: HostRuntime) -> Result<(), Fail> {
     assert!(rt; empty.is(Status::Stopped, b"job.log", NO_END_AT_0));
     let two = call(alloc, &["alone", "job"], b"\\relax\r\n% the last line")?;
     assert!(rt; two.is(Status::Stopped, b"job.log", NO_END_AT_2));
+    let behind_digits = call(alloc, &["alone", "job"], b"%\n\\catcode`a=12%")?;
+    assert!(rt; behind_digits.is(Status::Stopped, b"job.log", NO_END_AT_2));
     Ok(())
 }
 
