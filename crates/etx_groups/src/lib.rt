@@ -6,6 +6,7 @@
 #![tactic(auto)]
 
 mod groups;
+pub mod law;
 
 pub use groups::{NoGroup, after, assign, assign_global, begin, end};
 
