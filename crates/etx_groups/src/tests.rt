@@ -8,10 +8,7 @@ use std::alloc::{AllocError, Global};
 use std::test::Fail;
 
 fn opened(alloc: Global) -> Result<State, AllocError> {
-    let job = Job {
-        name: Bytes::from_slice(alloc, b"a.tex")?,
-        budget: 1000,
-    };
+    let job = Job::new(Bytes::from_slice(alloc, b"a.tex")?, 1000);
     State::open(alloc, &job)
 }
 
