@@ -2,6 +2,7 @@
 //! to the outside.
 #![tactic(auto)]
 
+mod category;
 mod deed;
 mod end;
 mod job;
@@ -9,8 +10,9 @@ mod job;
 mod tests;
 mod token;
 
+pub use category::Category;
 pub use deed::{Audience, Deed};
-pub use end::{End, FatalError, Status};
+pub use end::{End, FatalError, Limit, Status};
 pub use etx_lists::{Bytes, Listed, MOST};
 pub use job::{GREATEST_BUDGET, Job};
-pub use token::{NameId, PAR, Token, Tokens};
+pub use token::{FROZEN_INACCESSIBLE, NameId, PAR, Token, Tokens};
