@@ -28,15 +28,11 @@ pub struct Definition {
     pub brace: Option<Token>,
 }
 
-/// A scan in progress.
+/// A scan in progress. It keeps no token that is put back later.
 #[derive(Drop)]
 pub enum Scan {
     /// `\expandafter` waits for the token that it keeps.
     ExpandAfter,
-    /// It keeps this token, and waits for the one that it expands.
-    ExpandUnder(Token),
-    /// It puts this token back. This gets no token.
-    PutBack(Token),
     /// `\noexpand` waits for a token.
     NoExpand,
     /// `\string` waits for a token.
@@ -51,8 +47,6 @@ pub enum Scan {
         depth: u32,
         text: Tokens,
     },
-    /// This text is to be said, behind a space where `is_parted` is false. This gets no token.
-    Say { text: Bytes, is_parted: bool },
     /// Prefixes wait for what they are for.
     Prefix(Prefixes),
     /// A definition waits for the control sequence to be defined.
@@ -82,12 +76,6 @@ pub enum Scan {
     LetToken { is_global: bool, name: Token },
     /// `\futurelet` waits for the first of its two tokens.
     FutureFirst { is_global: bool, name: Token },
-    /// It keeps that one, and waits for the token whose meaning is taken.
-    FutureSecond {
-        is_global: bool,
-        name: Token,
-        first: Token,
-    },
     /// `\aftergroup` waits for a token.
     AfterGroup,
     /// `\afterassignment` waits for a token.
@@ -114,4 +102,26 @@ pub enum Scan {
         code: u8,
         category: Category,
     },
+}
+
+/// For what a token is kept while the next one is got.
+#[derive(Clone, Copy)]
+pub enum Keeper {
+    /// `\expandafter` expands the next one.
+    ExpandAfter,
+    /// `\futurelet` gives this control sequence the next one's meaning.
+    Future { is_global: bool, name: Token },
+}
+
+/// What stands on the stack of what the mouth is in the middle of.
+#[derive(Drop)]
+pub enum Entry {
+    /// A scan that waits for a token.
+    Scan(Scan),
+    /// A token that is kept while the next one is got.
+    Kept { token: Token, by: Keeper },
+    /// A token that is put back next.
+    PutBack(Token),
+    /// A text that is said next, behind a space where `is_parted` is false.
+    Say { text: Bytes, is_parted: bool },
 }
