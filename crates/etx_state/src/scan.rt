@@ -39,14 +39,18 @@ pub enum Scan {
     StringOf,
     /// `\csname`: the name so far.
     CsName(Bytes),
-    /// The control sequence `reader` says a message, and waits for its left brace.
-    MessageBrace { reader: Token },
-    /// The text of its message so far, in which `depth` braces are open.
-    MessageText {
+    /// The main loop waits for a command.
+    Command,
+    /// The control sequence `reader` waits for the left brace of a text that is expanded.
+    TextBrace { reader: Token },
+    /// Its text so far, in which `depth` braces are open.
+    Text {
         reader: Token,
         depth: u32,
-        text: Tokens,
+        items: Tokens,
     },
+    /// `\message` waits for its text.
+    Message,
     /// Prefixes wait for what they are for.
     Prefix(Prefixes),
     /// A definition waits for the control sequence to be defined.
