@@ -58,12 +58,12 @@ pub enum Scan {
         prefixes: Prefixes,
         is_expanded: bool,
     },
-    /// A definition's parameter text; `mark`: the character of category 6 that was got last.
+    /// A definition's parameter text; `mark`: the code of the character of category 6 that was got last.
     DefParams {
         definition: Definition,
-        mark: Option<Token>,
+        mark: Option<u8>,
     },
-    /// A definition's body, in which `depth` braces are open; `mark`: the character of category 6 that was got last.
+    /// A definition's body, in which `depth` braces are open; `mark`: the token of category 6 that was got last.
     DefBody {
         definition: Definition,
         depth: u32,
