@@ -1,6 +1,6 @@
 -- The rows of assignments: what each scan makes of the token that it got ("TeX: The Program", sections 1211 to 1232 for \let,
 -- definitions and codes, 473 to 479 for parameter texts and bodies).
-use Rattle.std.specs.Prelude.{ℕ, ◌+◌, ◌-◌, ◌*◌, Bool, true, false, nat_le, ◌==◌, ◌&&◌, not, List, [], ◌∷◌, ◌++◌, Option, Some, None, Ok, Err, Result, slice_get, codes, if◌then◌else◌}
+use Rattle.std.specs.Prelude.{ℕ, ◌+◌, ◌-◌, ◌*◌, Bool, true, false, nat_le, ◌==◌, ◌&&◌, ◌||◌, not, List, [], ◌∷◌, ◌++◌, Option, Some, None, Ok, Err, Result, slice_get, codes, if◌then◌else◌}
 use Rattle.etx_matter.specs.declared.token.Token.{Token}
 use Rattle.etx_matter.specs.declared.token.Token.TheVariants.{Char, Name, Param}
 use Rattle.etx_matter.specs.declared.end.End.TheVariants.{Unbuilt}
@@ -181,15 +181,15 @@ abbrev pub mark_of : Meaning → Option ℕ
 mark_of (means.Char code cat) = if cat == 6 then Some code else None
 mark_of _ = None
 
-abbrev pub text_or_mark : Definition → Token → Option ℕ → Values → Planned
-text_or_mark d t (Some code) v = planned v (Stay (in_params d (Some code)) Nothing)
-text_or_mark d t None v = planned v (Copied (in_params (with_params (t ∷ []) d) None))
+abbrev pub text_or_mark : Definition → Token → Option ℕ → Move
+text_or_mark d t (Some code) = Stay (in_params d (Some code)) Nothing
+text_or_mark d t None = Copied (in_params (with_params (t ∷ []) d) None)
 
 -- a token of a parameter text: the first brace ends it
 abbrev pub params_by : Brace → Definition → Token → Meaning → Values → Planned
 params_by Left d t mm v = planned v (Used (Begin (in_body d 0 [] None)))
 params_by Right d t mm v = failed_over (defined d [] v)
-params_by Neither d t mm v = text_or_mark d t (mark_of mm) v
+params_by Neither d t mm v = planned v (text_or_mark d t (mark_of mm))
 
 abbrev pub digit_token : ℕ → Token
 digit_token n = Char (48 + n) 12
@@ -209,35 +209,39 @@ ended_by_brace code t d = record d { params = d.params ++ t ∷ []; brace = Some
 
 -- a tenth parameter is no parameter: what stands behind its character is matched as it is, unless it is a brace or such a
 -- character itself
-abbrev pub tenth_text : Token → Meaning → Definition → Definition
-tenth_text (Char code cat) mm d = if (cat == 1) then d else if (cat == 2) then d else if (cat == 6) then d else with_params (Char code cat ∷ []) d
-tenth_text t mm d = with_params (t ∷ []) d
+abbrev pub tenth_text : Token → Definition → Definition
+tenth_text (Char code cat) d = if (cat == 1) || (cat == 2) || (cat == 6) then d else with_params (Char code cat ∷ []) d
+tenth_text t d = with_params (t ∷ []) d
 
 abbrev pub ninth_failure : Definition → Move
 ninth_failure d = Fails (record { text = codes "You already have nine parameters"; scan = Some (in_params d None); is_back = false; inserted = [] })
 
-abbrev pub number_row : ℕ → Definition → Token → Meaning → Move
-number_row code d t mm =
-    if d.count == 9 then ninth_failure (tenth_text t mm d)
+abbrev pub number_row : ℕ → Definition → Token → Move
+number_row code d t =
+    if nat_le 9 d.count then ninth_failure (tenth_text t d)
     else if is_digit_token (d.count + 1) t then Copied (in_params (with_parameter code d) None)
     else failure_into (codes "Parameters must be numbered consecutively") (in_params (with_parameter code d) None)
 
 -- behind a character of category 6: a left brace ends the parameter text, and the body too
 abbrev pub behind_mark_row : ℕ → Definition → Token → Meaning → Move
-behind_mark_row code d t mm = if has_category 1 mm then Copied (in_body (ended_by_brace code t d) 0 [] None) else number_row code d t mm
+behind_mark_row code d t mm = if has_category 1 mm then Copied (in_body (ended_by_brace code t d) 0 [] None) else number_row code d t
 
 unfoldable pub params_row : Definition → Option ℕ → Token → Meaning → Values → Planned
 params_row d None t mm v = params_by (brace_of t) d t mm v
 params_row d (Some code) t mm v = planned v (behind_mark_row code d t mm)
 
+-- one token more
+abbrev pub body_goes_on : Definition → ℕ → List Token → Token → Move
+body_goes_on d depth body t = Copied (in_body d depth (body ++ t ∷ []) None)
+
 abbrev pub body_or_mark : Definition → ℕ → List Token → Token → Option ℕ → Move
 body_or_mark d depth body t (Some code) = Stay (in_body d depth body (Some t)) Nothing
-body_or_mark d depth body t None = Copied (in_body d depth (body ++ t ∷ []) None)
+body_or_mark d depth body t None = body_goes_on d depth body t
 
 -- a token of a body: the right brace that has no partner in it ends it
 abbrev pub body_by : Brace → Definition → ℕ → List Token → Token → Meaning → Values → Planned
-body_by Left d depth body t mm v = planned v (Copied (in_body d (depth + 1) (body ++ t ∷ []) None))
-body_by Right d depth body t mm v = if depth == 0 then definition_over d body v else planned v (Copied (in_body d (depth - 1) (body ++ t ∷ []) None))
+body_by Left d depth body t mm v = planned v (body_goes_on d (depth + 1) body t)
+body_by Right d depth body t mm v = if depth == 0 then definition_over d body v else planned v (body_goes_on d (depth - 1) body t)
 body_by Neither d depth body t mm v = planned v (body_or_mark d depth body t (mark_of mm))
 
 -- the number of a parameter that the definition has
@@ -247,12 +251,12 @@ parameter_in count (Name n) = None
 parameter_in count (Param n) = None
 
 abbrev pub parameter_by : Option ℕ → Definition → ℕ → List Token → Token → Token → Mouth → Move
-parameter_by (Some n) d depth body s t m = Copied (in_body d depth (body ++ Param n ∷ []) None)
+parameter_by (Some n) d depth body s t m = body_goes_on d depth body (Param n)
 parameter_by None d depth body s t m = failure_into (codes "Illegal parameter number in definition of " ++ shown_name m d.name) (in_body d depth (body ++ s ∷ []) None)
 
 -- behind a character of category 6 in a body: a second one stands for itself, and a digit for a parameter
 abbrev pub behind_mark_in_body : Option ℕ → Definition → ℕ → List Token → Token → Token → Mouth → Move
-behind_mark_in_body (Some code) d depth body s t m = Copied (in_body d depth (body ++ t ∷ []) None)
+behind_mark_in_body (Some code) d depth body s t m = body_goes_on d depth body t
 behind_mark_in_body None d depth body s t m = parameter_by (parameter_in d.count t) d depth body s t m
 
 unfoldable pub body_row : Definition → ℕ → List Token → Option Token → Token → Meaning → Mouth → Planned
