@@ -76,7 +76,7 @@ after_row afters.Assignment = Used (Begin scan.AfterAssignment)
 
 abbrev pub message_row : MessageKind → Token → Move
 message_row messages.Message t = Stay scan.Message (Begin (scan.TextBrace t))
-message_row messages.ErrMessage t = Ends Unbuilt
+message_row messages.Error t = Ends Unbuilt
 
 -- an assignment, or what is still to come
 abbrev pub other_row : Primitive → Values → Move
