@@ -17,6 +17,8 @@ impl Model for Category {
     ghost view = { λ c. c.number };
 
     ghost invariant = { λ c. c.number ≤ 15 };
+
+    ghost inverse = { λ n. record { number = n } };
 }
 
 impl Category {

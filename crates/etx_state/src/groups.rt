@@ -4,9 +4,9 @@ ghost use Rattle.etx_state.specs.Values.{assign, assign_global, change, begin, e
 ghost use Rattle.etx_state.specs.Saves.{values_in, KeepsIn, IsSound};
 
 use crate::key::{GroupKind, Key, Val};
+use crate::noted::Noted;
 use crate::saves;
 use crate::slot::{Cell, Content, Item, Slot};
-use crate::unread::Unread;
 use etx_matter::Token;
 use etx_undo::Store;
 use std::alloc::AllocError;
@@ -83,16 +83,16 @@ pub fn after(store: &mut Store<Slot, Content>, token: Token) -> Result<(), Alloc
 
 pub fn end(
     store: &mut Store<Slot, Content>,
-    input: &mut Unread,
+    noted: &mut Noted,
 ) -> Result<Option<GroupKind>, AllocError>
     requires { IsSound store.old }
     ensures kind { IfOk result (λ o. o ≡ kind (values_in store.old)) }
     ensures ok { OnOk result (values_in store.new ≡ ended (values_in store.old)) }
-    ensures after { OnOk result (input.new ≡ after (values_in store.old) ++ input.old) }
+    ensures after { OnOk result (noted.new ≡ after (values_in store.old) ++ noted.old) }
     ensures sound { IsSound store.new }
     ensures kept { KeepsIn store.old store.new }
 {
-    let kind = saves::unwind(store, input)?;
+    let kind = saves::unwind(store, noted)?;
     Ok(kind)
 }
 

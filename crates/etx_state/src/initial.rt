@@ -13,7 +13,9 @@ pub fn first(key: Key) -> &'static Val
         Key::Category(code) => first_category(code),
         Key::Meaning(0) => &Val::Means(Meaning::Primitive(Primitive::Par)),
         Key::Meaning(_) => &Val::Means(Meaning::Undefined),
+        Key::Active(_) => &Val::Means(Meaning::Undefined),
         Key::Int(parameter) => first_int(parameter),
+        Key::AfterAssignment => &Val::Kept(None),
     }
 }
 

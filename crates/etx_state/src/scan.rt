@@ -28,31 +28,29 @@ pub struct Definition {
     pub brace: Option<Token>,
 }
 
-/// A scan in progress.
+/// A scan in progress. It keeps no token that is put back later.
 #[derive(Drop)]
 pub enum Scan {
     /// `\expandafter` waits for the token that it keeps.
     ExpandAfter,
-    /// It keeps this token, and waits for the one that it expands.
-    ExpandUnder(Token),
-    /// It puts this token back. This gets no token.
-    PutBack(Token),
     /// `\noexpand` waits for a token.
     NoExpand,
     /// `\string` waits for a token.
     StringOf,
     /// `\csname`: the name so far.
     CsName(Bytes),
-    /// The control sequence `reader` says a message, and waits for its left brace.
-    MessageBrace { reader: Token },
-    /// The text of its message so far, in which `depth` braces are open.
-    MessageText {
+    /// The main loop waits for a command.
+    Command,
+    /// The control sequence `reader` waits for the left brace of a text that is expanded.
+    TextBrace { reader: Token },
+    /// Its text so far, in which `depth` braces are open.
+    Text {
         reader: Token,
         depth: u32,
-        text: Tokens,
+        items: Tokens,
     },
-    /// This text is to be said, behind a space where `is_parted` is false. This gets no token.
-    Say { text: Bytes, is_parted: bool },
+    /// `\message` waits for its text.
+    Message,
     /// Prefixes wait for what they are for.
     Prefix(Prefixes),
     /// A definition waits for the control sequence to be defined.
@@ -60,12 +58,12 @@ pub enum Scan {
         prefixes: Prefixes,
         is_expanded: bool,
     },
-    /// A definition's parameter text; `mark`: the character of category 6 that was got last.
+    /// A definition's parameter text; `mark`: the code of the character of category 6 that was got last.
     DefParams {
         definition: Definition,
-        mark: Option<Token>,
+        mark: Option<u8>,
     },
-    /// A definition's body, in which `depth` braces are open; `mark`: the character of category 6 that was got last.
+    /// A definition's body, in which `depth` braces are open; `mark`: the token of category 6 that was got last.
     DefBody {
         definition: Definition,
         depth: u32,
@@ -82,12 +80,6 @@ pub enum Scan {
     LetToken { is_global: bool, name: Token },
     /// `\futurelet` waits for the first of its two tokens.
     FutureFirst { is_global: bool, name: Token },
-    /// It keeps that one, and waits for the token whose meaning is taken.
-    FutureSecond {
-        is_global: bool,
-        name: Token,
-        first: Token,
-    },
     /// `\aftergroup` waits for a token.
     AfterGroup,
     /// `\afterassignment` waits for a token.
@@ -114,4 +106,26 @@ pub enum Scan {
         code: u8,
         category: Category,
     },
+}
+
+/// For what a token is kept while the next one is got.
+#[derive(Clone, Copy)]
+pub enum Keeper {
+    /// `\expandafter` expands the next one.
+    ExpandAfter,
+    /// `\futurelet` gives this control sequence the next one's meaning.
+    Future { is_global: bool, name: Token },
+}
+
+/// What stands on the stack of what the mouth is in the middle of.
+#[derive(Drop)]
+pub enum Entry {
+    /// A scan that waits for a token.
+    Scan(Scan),
+    /// A token that is kept while the next one is got.
+    Kept { token: Token, by: Keeper },
+    /// A token that is put back next.
+    PutBack(Token),
+    /// A text that is said next, behind a space where `is_parted` is false.
+    Say { text: Bytes, is_parted: bool },
 }
