@@ -1,5 +1,5 @@
 -- The state, as contracts see it: the mouth that it stands for.
-use Rattle.std.specs.Prelude.{◌≡◌, ℕ, ◌≤◌, List, ◌∷◌, [], ◌++◌, Option, Some, None, length, take, codes, if◌then◌else◌}
+use Rattle.std.specs.Prelude.{◌≡◌, Bool, nat_lt, ℕ, ◌≤◌, List, ◌∷◌, [], ◌++◌, Option, Some, None, length, take, codes, if◌then◌else◌}
 use Rattle.etx_input.specs.Levels.{InputState, Given, no_input, with_list, given_of}
 use Rattle.etx_input.specs.declared.origin.Origin.TheVariants.{Fresh}
 use Rattle.etx_prims.specs.declared.command.Primitive.{Primitive}
@@ -8,12 +8,12 @@ use Rattle.etx_prims.specs.Lookup.{primitive_named}
 use Rattle.etx_state.specs.declared.key.Key.TheVariants as key
 use Rattle.etx_state.specs.declared.key.Val.TheVariants as val
 use Rattle.etx_state.specs.declared.key.Meaning.TheVariants as meanings
-use Rattle.etx_state.specs.declared.scan.Scan.{Scan}
+use Rattle.etx_state.specs.declared.scan.Entry.{Entry}
 use Rattle.etx_state.specs.declared.state.State.{State}
 use Rattle.etx_state.specs.declared.state.Mark.{Mark}
 use Rattle.etx_state.specs.Initial.{first_of}
 use Rattle.etx_state.specs.Naming.{has_name, place_of}
-use Rattle.etx_state.specs.Reading.{category_in, int_in}
+pub use Rattle.etx_state.specs.Reading.{category_in, meaning_in, active_in, int_in, kept_in, token_meaning}
 use Rattle.etx_state.specs.Saves.{values_in, values_in_at, IsKeptIn}
 use Rattle.etx_state.specs.Values.{Values, assign_global, after, ended, outermost}
 use Rattle.etx_undo.specs.History as history
@@ -24,7 +24,7 @@ pub record Mouth : Type 0 where
   pub values : Values
   pub names : List (List ℕ)
   pub input : InputState
-  pub scans : List Scan
+  pub scans : List Entry
   pub spent : ℕ
 
 -- THE MEANING of a state
@@ -41,7 +41,7 @@ with_names n m = record m { names = n }
 abbrev pub with_input : InputState → Mouth → Mouth
 with_input i m = record m { input = i }
 
-abbrev pub with_scans : List Scan → Mouth → Mouth
+abbrev pub with_scans : List Entry → Mouth → Mouth
 with_scans s m = record m { scans = s }
 
 abbrev pub with_spent : ℕ → Mouth → Mouth
@@ -66,6 +66,10 @@ first_mouth = record { values = outermost first_of; names = codes "par" ∷ []; 
 -- the number of a name, and the one that it would get where it has none
 unfoldable pub number_of : List ℕ → Mouth → ℕ
 number_of name m = place_of m.names name
+
+-- whether there is room for the name: a known name needs none, and there are at most 2^20 names
+unfoldable pub has_room : List ℕ → Mouth → Bool
+has_room name m = nat_lt (number_of name m) 1048576
 
 -- a name that had no number gets the next one; where a primitive has the name, the name means it in the outermost map
 abbrev pub named : Option Primitive → List ℕ → Mouth → Mouth

@@ -3,6 +3,7 @@ ghost use Rattle.etx_state.specs.Fits.{Fits};
 ghost use Rattle.etx_state.specs.Values.{assign, assign_global, change, begin, ended, kind, after, noted};
 ghost use Rattle.etx_state.specs.Saves.{values_in, KeepsIn, IsSound};
 
+use crate::initial::Firsts;
 use crate::key::{GroupKind, Key, Val};
 use crate::noted::Noted;
 use crate::saves;
@@ -11,7 +12,12 @@ use etx_matter::Token;
 use etx_undo::Store;
 use std::alloc::AllocError;
 
-pub fn assign(store: &mut Store<Slot, Content>, key: Key, value: Val) -> Result<(), AllocError>
+pub fn assign(
+    store: &mut Store<Slot, Content>,
+    firsts: &Firsts,
+    key: Key,
+    value: Val,
+) -> Result<(), AllocError>
     requires sound { IsSound store.old }
     requires fits { Fits key value }
     ensures ok { OnOk result (values_in store.new ≡ assign (values_in store.old) key value) }
@@ -23,7 +29,7 @@ pub fn assign(store: &mut Store<Slot, Content>, key: Key, value: Val) -> Result<
         saves::put_cell(store, key, Cell { value, level })?;
         return Ok(());
     }
-    let cell = saves::cell(store, key)?;
+    let cell = saves::cell(store, firsts, key)?;
     saves::push(store, Item::Undo { key, cell })?;
     saves::put_cell(store, key, Cell { value, level })?;
     Ok(())

@@ -1,79 +1,135 @@
 //! The values that INITEX starts with.
-ghost use Rattle.std.specs.Prelude.{◌≡◌};
+ghost use Rattle.std.specs.Prelude.{◌≡◌, None, pos};
 ghost use Rattle.etx_state.specs.Initial.{first_category, first_int, first_of};
 
 use crate::key::{Key, Meaning, Val};
 use etx_prims::{IntParam, Primitive};
 
-// The first values. They are borrowed for as long as one likes, so they are constants of the program.
-static ESCAPE: Val = Val::Category(0);
-static END_OF_LINE: Val = Val::Category(5);
-static IGNORED: Val = Val::Category(9);
-static SPACE: Val = Val::Category(10);
-static LETTER: Val = Val::Category(11);
-static OTHER: Val = Val::Category(12);
-static COMMENT: Val = Val::Category(14);
-static INVALID: Val = Val::Category(15);
-static TEN_THOUSAND: Val = Val::Int(10000);
-static THOUSAND: Val = Val::Int(1000);
-static TWENTY_FIVE: Val = Val::Int(25);
-static ONE: Val = Val::Int(1);
-static BACKSLASH: Val = Val::Int(92);
-static RETURN: Val = Val::Int(13);
-static NOON: Val = Val::Int(720);
-static FOURTH: Val = Val::Int(4);
-static JULY: Val = Val::Int(7);
-static YEAR: Val = Val::Int(1776);
-static ZERO: Val = Val::Int(0);
-static PAR_COMMAND: Val = Val::Means(Meaning::Primitive(Primitive::Par));
-static UNDEFINED: Val = Val::Means(Meaning::Undefined);
-static NO_TOKEN: Val = Val::Kept(None);
-
-/// The value under the key before any assignment.
-pub fn first(key: Key) -> &'static Val
-    ensures { result.now ≡ first_of key }
-{
-    match key {
-        Key::Category(code) => first_category(code),
-        Key::Meaning(0) => &PAR_COMMAND,
-        Key::Meaning(_) => &UNDEFINED,
-        Key::Active(_) => &UNDEFINED,
-        Key::Int(parameter) => first_int(parameter),
-        Key::AfterAssignment => &NO_TOKEN,
-    }
+/// The values under keys before any assignment. They are kept, so that they can be lent: a value that may own memory
+/// can't be a constant of the program.
+#[derive(Drop)]
+pub struct Firsts {
+    escape: Val,
+    end_of_line: Val,
+    ignored: Val,
+    space: Val,
+    letter: Val,
+    other: Val,
+    comment: Val,
+    invalid: Val,
+    zero: Val,
+    one: Val,
+    fourth: Val,
+    july: Val,
+    return_code: Val,
+    twenty_five: Val,
+    backslash: Val,
+    noon: Val,
+    thousand: Val,
+    year: Val,
+    ten_thousand: Val,
+    par: Val,
+    undefined: Val,
+    no_token: Val,
+    ghost right: { (escape ≡ Val.Category 0)
+        × (end_of_line ≡ Val.Category 5)
+        × (ignored ≡ Val.Category 9)
+        × (space ≡ Val.Category 10)
+        × (letter ≡ Val.Category 11)
+        × (other ≡ Val.Category 12)
+        × (comment ≡ Val.Category 14)
+        × (invalid ≡ Val.Category 15)
+        × (zero ≡ Val.Int (pos 0))
+        × (one ≡ Val.Int (pos 1))
+        × (fourth ≡ Val.Int (pos 4))
+        × (july ≡ Val.Int (pos 7))
+        × (return_code ≡ Val.Int (pos 13))
+        × (twenty_five ≡ Val.Int (pos 25))
+        × (backslash ≡ Val.Int (pos 92))
+        × (noon ≡ Val.Int (pos 720))
+        × (thousand ≡ Val.Int (pos 1000))
+        × (year ≡ Val.Int (pos 1776))
+        × (ten_thousand ≡ Val.Int (pos 10000))
+        × (par ≡ Val.Means (Meaning.Primitive Primitive.Par))
+        × (undefined ≡ Val.Means Meaning.Undefined)
+        × (no_token ≡ Val.Kept None) },
 }
 
-#[tactic(auto, unfolding(crate::specs::Initial::first_category))]
-fn first_category(code: u8) -> &'static Val
-    ensures { result.now ≡ Val.Category (first_category code) }
-{
-    match code {
-        b'\\' => &ESCAPE,
-        b'A'..=b'Z' | b'a'..=b'z' => &LETTER,
-        b' ' => &SPACE,
-        b'\r' => &END_OF_LINE,
-        b'%' => &COMMENT,
-        0 => &IGNORED,
-        127 => &INVALID,
-        _ => &OTHER,
+impl Firsts {
+    /// Takes no memory.
+    pub fn new() -> Firsts {
+        Firsts {
+            escape: Val::Category(0),
+            end_of_line: Val::Category(5),
+            ignored: Val::Category(9),
+            space: Val::Category(10),
+            letter: Val::Category(11),
+            other: Val::Category(12),
+            comment: Val::Category(14),
+            invalid: Val::Category(15),
+            zero: Val::Int(0),
+            one: Val::Int(1),
+            fourth: Val::Int(4),
+            july: Val::Int(7),
+            return_code: Val::Int(13),
+            twenty_five: Val::Int(25),
+            backslash: Val::Int(92),
+            noon: Val::Int(720),
+            thousand: Val::Int(1000),
+            year: Val::Int(1776),
+            ten_thousand: Val::Int(10000),
+            par: Val::Means(Meaning::Primitive(Primitive::Par)),
+            undefined: Val::Means(Meaning::Undefined),
+            no_token: Val::Kept(None),
+        }
     }
-}
 
-#[tactic(auto, unfolding(crate::specs::Initial::first_int))]
-fn first_int(parameter: IntParam) -> &'static Val
-    ensures { result.now ≡ Val.Int (first_int parameter) }
-{
-    match parameter {
-        IntParam::Tolerance => &TEN_THOUSAND,
-        IntParam::Mag => &THOUSAND,
-        IntParam::MaxDeadCycles => &TWENTY_FIVE,
-        IntParam::HangAfter => &ONE,
-        IntParam::EscapeChar => &BACKSLASH,
-        IntParam::EndLineChar => &RETURN,
-        IntParam::Time => &NOON,
-        IntParam::Day => &FOURTH,
-        IntParam::Month => &JULY,
-        IntParam::Year => &YEAR,
-        _ => &ZERO,
+    /// The value under the key before any assignment.
+    pub fn get(&self, key: Key) -> &Val
+        ensures { result.now ≡ first_of key }
+    {
+        match key {
+            Key::Category(code) => self.category(code),
+            Key::Meaning(0) => &self.par,
+            Key::Meaning(_) => &self.undefined,
+            Key::Active(_) => &self.undefined,
+            Key::Int(parameter) => self.int(parameter),
+            Key::AfterAssignment => &self.no_token,
+        }
+    }
+
+    #[tactic(auto, unfolding(crate::specs::Initial::first_category))]
+    fn category(&self, code: u8) -> &Val
+        ensures { result.now ≡ Val.Category (first_category code) }
+    {
+        match code {
+            b'\\' => &self.escape,
+            b'A'..=b'Z' | b'a'..=b'z' => &self.letter,
+            b' ' => &self.space,
+            b'\r' => &self.end_of_line,
+            b'%' => &self.comment,
+            0 => &self.ignored,
+            127 => &self.invalid,
+            _ => &self.other,
+        }
+    }
+
+    #[tactic(auto, unfolding(crate::specs::Initial::first_int))]
+    fn int(&self, parameter: IntParam) -> &Val
+        ensures { result.now ≡ Val.Int (first_int parameter) }
+    {
+        match parameter {
+            IntParam::Tolerance => &self.ten_thousand,
+            IntParam::Mag => &self.thousand,
+            IntParam::MaxDeadCycles => &self.twenty_five,
+            IntParam::HangAfter => &self.one,
+            IntParam::EscapeChar => &self.backslash,
+            IntParam::EndLineChar => &self.return_code,
+            IntParam::Time => &self.noon,
+            IntParam::Day => &self.fourth,
+            IntParam::Month => &self.july,
+            IntParam::Year => &self.year,
+            _ => &self.zero,
+        }
     }
 }

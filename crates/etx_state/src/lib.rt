@@ -22,6 +22,6 @@ pub use etx_matter::Limit;
 pub use key::{GroupKind, Key, Meaning, Val};
 pub use law::what_a_mark_stands_for_stays;
 pub use limit::{Capacity, MOST_GROUPS, MOST_NAMES};
-pub use scan::{Definition, Prefixes, Scan};
+pub use scan::{Definition, Entry, Keeper, Prefixes, Scan};
 pub use scans::Scans;
 pub use state::{Mark, State};

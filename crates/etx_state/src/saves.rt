@@ -24,7 +24,7 @@ ghost use Rattle.etx_state.specs.Saves.{
 };
 ghost use Rattle.etx_state.specs.Fits.{Fits};
 
-use crate::initial::first;
+use crate::initial::Firsts;
 use crate::key::{GroupKind, Key};
 use crate::noted::Noted;
 use crate::slot::{Cell, Content, Item, Sizes, Slot};
@@ -61,13 +61,17 @@ pub fn sizes(store: &Store<Slot, Content>) -> Sizes
 }
 
 #[tactic(auto, unfolding(crate::specs::Saves::here))]
-pub fn cell(store: &Store<Slot, Content>, key: Key) -> Result<Cell, AllocError>
+pub fn cell(
+    store: &Store<Slot, Content>,
+    firsts: &Firsts,
+    key: Key,
+) -> Result<Cell, AllocError>
     ensures { IfOk result (λ cell. cell ≡ cells_of store.now key) }
 {
     match store.get(&Slot::At(key)) {
         Some(Content::Held(cell)) => cell.share(),
         _ => Ok(Cell {
-            value: first(key).share()?,
+            value: firsts.get(key).share()?,
             level: 0,
         }),
     }

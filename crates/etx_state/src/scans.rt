@@ -1,27 +1,27 @@
 //! The stack of scans in progress.
 ghost use Rattle.std.specs.Prelude.{◌≡◌, ◌↔◌, ◌∷◌, [], length, IsTrue, OnOk, OnErr, MatchOption};
 
-use crate::scan::Scan;
+use crate::scan::Entry;
 use std::alloc::{AllocError, Global};
 use std::marker::Model;
 
-/// Scans in progress. Contracts see them as a list, the one that was begun last first.
+/// Scans in progress, and what else waits among them. Contracts see them as a list, what was pushed last first.
 #[derive(Drop)]
 pub struct Scans {
-    items: Vec<Scan>,
+    items: Vec<Entry>,
 }
 
 impl Model for Scans {
     ghost use Rattle.std.specs.Prelude.{List, reverse};
-    ghost use Rattle.etx_state.specs.declared.scan.Scan.{Scan};
+    ghost use Rattle.etx_state.specs.declared.scan.Entry.{Entry};
 
-    ghost Value = { List Scan };
+    ghost Value = { List Entry };
 
     ghost view = { λ s. reverse s.items.items };
 }
 
 impl Scans {
-    /// No scans. Takes no memory.
+    /// No entries. Takes no memory.
     pub fn new(alloc: Global) -> Scans
         ensures { result ≡ [] }
     {
@@ -30,7 +30,7 @@ impl Scans {
         }
     }
 
-    /// How many scans there are.
+    /// How many entries there are.
     pub fn len(&self) -> usize
         ensures { result ≡ length self.now }
     {
@@ -44,18 +44,18 @@ impl Scans {
         self.items.is_empty()
     }
 
-    /// Begins a scan. After an `Err` the scans are what they were.
-    pub fn push(&mut self, scan: Scan) -> Result<(), AllocError>
-        ensures ok { OnOk result (self.new ≡ scan ∷ self.old) }
+    /// One more entry. After an `Err` the entries are what they were.
+    pub fn push(&mut self, entry: Entry) -> Result<(), AllocError>
+        ensures ok { OnOk result (self.new ≡ entry ∷ self.old) }
         ensures err { OnErr result (self.new ≡ self.old) }
     {
-        self.items.push(scan)?;
+        self.items.push(entry)?;
         Ok(())
     }
 
-    /// Takes the scan that was begun last. `None` exactly where there is none.
-    pub fn pop(&mut self) -> Option<Scan>
-        ensures { MatchOption result ((self.old ≡ []) × (self.new ≡ [])) (λ scan. self.old ≡ scan ∷ self.new) }
+    /// Takes the entry that was pushed last. `None` exactly where there is none.
+    pub fn pop(&mut self) -> Option<Entry>
+        ensures { MatchOption result ((self.old ≡ []) × (self.new ≡ [])) (λ entry. self.old ≡ entry ∷ self.new) }
     {
         self.items.pop()
     }

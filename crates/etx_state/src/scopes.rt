@@ -7,7 +7,7 @@ ghost use Rattle.etx_state.specs.Initial.{first_of};
 ghost use Rattle.etx_state.specs.Reading.{category_in};
 ghost use Rattle.etx_state.specs.Saves.{values_in, values_in_at, KeepsIn, IsKeptIn, cells_of, IsSound};
 
-use crate::initial::first;
+use crate::initial::Firsts;
 use crate::key::{GroupKind, Key, Val};
 use crate::noted::Noted;
 use crate::slot::{Content, Slot};
@@ -22,6 +22,7 @@ use std::marker::Model;
 #[derive(Drop)]
 pub struct Scopes {
     store: Store<Slot, Content>,
+    firsts: Firsts,
 }
 
 impl Model for Scopes {
@@ -45,6 +46,7 @@ impl Scopes {
     {
         Scopes {
             store: Store::new(alloc),
+            firsts: Firsts::new(),
         }
     }
 
@@ -75,7 +77,7 @@ impl Scopes {
     {
         match self.store.get(&Slot::At(key)) {
             Some(Content::Held(cell)) => &cell.value,
-            _ => first(key),
+            _ => self.firsts.get(key),
         }
     }
 
@@ -99,7 +101,7 @@ impl Scopes {
         ensures ok { OnOk result (values_in self.new ≡ assign (values_in self.old) key value) }
         ensures kept { KeepsIn self.old self.new }
     {
-        groups::assign(&mut self.store, key, value)
+        groups::assign(&mut self.store, &self.firsts, key, value)
     }
 
     /// Writes the outermost map, and takes the key out of all others.

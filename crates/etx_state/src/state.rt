@@ -1,5 +1,5 @@
 //! The state of the mouth.
-ghost use Rattle.std.specs.Prelude.{◌≡◌, ◌↔◌, ◌≤◌, [], ℕ, length, slice_get, IsTrue, Err, OnOk, OnErr, IfOk};
+ghost use Rattle.std.specs.Prelude.{◌≡◌, false, ◌↔◌, ◌≤◌, [], ℕ, length, slice_get, IsTrue, Err, OnOk, OnErr, IfOk};
 ghost use Rattle.std.specs.Option.{option_map};
 ghost use Rattle.etx_state.specs.Fits.{Fits};
 ghost use Rattle.etx_state.specs.Naming.{IsApart, IsFresh};
@@ -15,6 +15,7 @@ ghost use Rattle.etx_state.specs.States.{
   OnlyInput,
   OnlyValuesAndInput,
   number_of,
+  has_room,
   named,
   with_name,
   group_ended,
@@ -83,6 +84,13 @@ impl State {
             scans: Scans::new(alloc),
             spent: 0,
         })
+    }
+
+    /// The allocator that the state takes memory from.
+    pub fn alloc(&self) -> Global
+        ensures { result ≡ self.now.alloc }
+    {
+        self.alloc
     }
 
     /// The value under the key: that of the innermost map that has it.
@@ -260,11 +268,11 @@ impl State {
     ///
     /// `Full` comes exactly where a new name would be one more than 2^20, so that its number would be 2^20. After an `Err`
     /// the state is what it was.
-    #[tactic(auto, unfolding(crate::specs::States::with_name, crate::specs::States::number_of))]
+    #[tactic(auto, unfolding(crate::specs::States::with_name, crate::specs::States::number_of, crate::specs::States::has_room))]
     pub fn name(&mut self, bytes: &[u8]) -> Result<NameId, Capacity>
         ensures number { IfOk result (λ n. n.0 ≡ number_of bytes.now (mouth_of self.old)) }
         ensures ok { OnOk result (mouth_of self.new ≡ with_name bytes.now (mouth_of self.old)) }
-        ensures full { (result ≡ Err (Capacity.Full Limit.Names)) ↔ (number_of bytes.now (mouth_of self.old) ≡ 1048576) }
+        ensures full { (result ≡ Err (Capacity.Full Limit.Names)) ↔ (has_room bytes.now (mouth_of self.old) ≡ false) }
         ensures err { OnErr result (self.new ≡ self.old) }
         ensures apart { IsApart (mouth_of self.new).names }
         ensures kept { Keeps self.old self.new }
