@@ -5,6 +5,7 @@
 #![tactic(auto)]
 
 mod file;
+mod gift;
 mod level;
 mod levels;
 mod origin;
