@@ -14,4 +14,4 @@ mod go;
 mod prefix;
 
 pub use go::go;
-pub use prefix::{begin, no_prefixes, with_prefix};
+pub use prefix::{begin, is_assignment, no_prefixes, with_prefix};

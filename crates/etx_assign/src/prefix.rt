@@ -57,7 +57,7 @@ fn is_for_definitions(prefixes: Prefixes) -> bool
 
 /// Whether a command takes `\global`.
 #[tactic(auto, unfolding(crate::specs::Assignments::is_assignment))]
-fn is_assignment(primitive: Primitive) -> bool
+pub fn is_assignment(primitive: Primitive) -> bool
     ensures { result ≡ is_assignment primitive }
 {
     match primitive {
