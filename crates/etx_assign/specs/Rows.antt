@@ -43,7 +43,7 @@ prefix_text what = codes "You can't use a prefix with " ++ what
 
 -- a command's name in an error
 abbrev pub shown_primitive : Values → Primitive → List ℕ
-shown_primitive v p = escape_in v ++ printed v (name_of p)
+shown_primitive v p = printed v (escape_in v ++ name_of p)
 
 -- what a character is, by its category (section 298)
 unfoldable pub character_words : ℕ → List ℕ
@@ -204,31 +204,27 @@ abbrev pub with_parameter : ℕ → Definition → Definition
 with_parameter code d = record d { params = d.params ++ Char code 6 ∷ digit_token (d.count + 1) ∷ []; count = d.count + 1 }
 
 abbrev pub ended_by_brace : ℕ → Token → Definition → Definition
-ended_by_brace code (Char c cat) d = record d { params = d.params ++ Char code 6 ∷ Char c cat ∷ []; brace = Some (Char c cat) }
-ended_by_brace code t d = record d { params = d.params ++ t ∷ []; brace = Some t }
+ended_by_brace code t d = record d { params = d.params ++ Char code 6 ∷ t ∷ []; brace = Some t }
 
--- a tenth parameter is no parameter: what stands behind its character is matched as it is, unless it is a brace or such a
--- character itself
-abbrev pub tenth_text : Token → Definition → Definition
-tenth_text (Char code cat) d = if (cat == 1) || (cat == 2) || (cat == 6) then d else with_params (Char code cat ∷ []) d
-tenth_text t d = with_params (t ∷ []) d
-
+-- a tenth parameter is dropped, with the token behind its character
 abbrev pub ninth_failure : Definition → Move
 ninth_failure d = Fails (record { text = codes "You already have nine parameters"; scan = Some (in_params d None); is_back = false; inserted = [] })
 
 abbrev pub number_row : ℕ → Definition → Token → Move
 number_row code d t =
-    if nat_le 9 d.count then ninth_failure (tenth_text t d)
+    if nat_le 9 d.count then ninth_failure d
     else if is_digit_token (d.count + 1) t then Copied (in_params (with_parameter code d) None)
     else failure_into (codes "Parameters must be numbered consecutively") (in_params (with_parameter code d) None)
 
 -- behind a character of category 6: a left brace ends the parameter text, and the body too
-abbrev pub behind_mark_row : ℕ → Definition → Token → Meaning → Move
-behind_mark_row code d t mm = if has_category 1 mm then Copied (in_body (ended_by_brace code t d) 0 [] None) else number_row code d t
+abbrev pub behind_mark_row : Brace → ℕ → Definition → Token → Move
+behind_mark_row Left code d t = Copied (in_body (ended_by_brace code t d) 0 [] None)
+behind_mark_row Right code d t = number_row code d t
+behind_mark_row Neither code d t = number_row code d t
 
 unfoldable pub params_row : Definition → Option ℕ → Token → Meaning → Values → Planned
 params_row d None t mm v = params_by (brace_of t) d t mm v
-params_row d (Some code) t mm v = planned v (behind_mark_row code d t mm)
+params_row d (Some code) t mm v = planned v (behind_mark_row (brace_of t) code d t)
 
 -- one token more
 abbrev pub body_goes_on : Definition → ℕ → List Token → Token → Move

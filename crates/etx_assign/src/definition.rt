@@ -1,11 +1,11 @@
 //! Definitions of macros: the control sequence, the parameter text, and the body.
 ghost use Rattle.std.specs.Prelude.{◌≡◌, ◌∷◌, [], ◌++◌, ◌+◌, OnOk, IfOk};
 ghost use Rattle.etx_state.specs.States.{mouth_of, with_values};
-ghost use Rattle.etx_assign.specs.Rows.{mark_of, digit_token, is_digit_token, with_parameter, ended_by_brace, tenth_text, number_row, behind_mark_row, params_row, with_params, text_or_mark, macro_of, defined, definition_over, failed_over, parameter_in, parameter_by, behind_mark_in_body, body_row, body_goes_on};
-ghost use Rattle.etx_expand.specs.Turn.{failure_into};
+ghost use Rattle.etx_assign.specs.Rows.{mark_of, digit_token, is_digit_token, with_parameter, ended_by_brace, number_row, behind_mark_row, params_row, with_params, text_or_mark, macro_of, defined, definition_over, failed_over, parameter_in, parameter_by, behind_mark_in_body, body_row, body_goes_on};
+ghost use Rattle.etx_expand.specs.Turn.{brace_of, failure_into};
 
 use crate::assignment::{drop_kept, end_used, kept, key, none, one, set};
-use etx_expand::{Brace, Failure, Move, Push, brace, has_category, push_name};
+use etx_expand::{Brace, Failure, Move, Push, brace, push_name};
 use etx_input::SharedTokens;
 use etx_lists::Bytes;
 use etx_macros::{Pattern, PatternFault};
@@ -157,22 +157,9 @@ fn ended_by_brace(
 ) -> Result<Definition, AllocError>
     ensures { IfOk result (λ d. d ≡ ended_by_brace code token definition) }
 {
-    let mut definition = match token {
-        Token::Char { .. } => with_params(definition, &[Token::Char { code, cat: 6 }, token])?,
-        Token::Name(_) | Token::Param(_) => with_params(definition, &[token])?,
-    };
+    let mut definition = with_params(definition, &[Token::Char { code, cat: 6 }, token])?;
     definition.brace = Some(token);
     Ok(definition)
-}
-
-/// What stands behind the character of a tenth parameter is matched as it is, unless it can't be.
-fn with_tenth(token: Token, definition: Definition) -> Result<Definition, AllocError>
-    ensures { IfOk result (λ d. d ≡ tenth_text token definition) }
-{
-    match token {
-        Token::Char { cat: 1 | 2 | 6, .. } => Ok(definition),
-        _ => with_params(definition, &[token]),
-    }
 }
 
 /// An error after which a scan goes on, and the token is read again.
@@ -196,7 +183,6 @@ fn number(
     ensures { IfOk result (λ go. go ≡ number_row code definition token) }
 {
     if definition.count >= MOST_PARAMETERS {
-        let definition = with_tenth(token, definition)?;
         return Ok(Move::Fails(Failure {
             text: Bytes::from_slice(s.alloc(), b"You already have nine parameters")?,
             scan: Some(Scan::DefParams {
@@ -224,19 +210,18 @@ fn behind_mark(
     code: u8,
     definition: Definition,
     token: Token,
-    meaning: &Meaning,
 ) -> Result<Move, AllocError>
-    ensures { IfOk result (λ go. go ≡ behind_mark_row code definition token meaning.now) }
+    ensures { IfOk result (λ go. go ≡ behind_mark_row (brace_of token) code definition token) }
 {
-    if has_category(1, meaning) {
-        return Ok(Move::Copied(Scan::DefBody {
+    match brace(token) {
+        Brace::Left => Ok(Move::Copied(Scan::DefBody {
             definition: ended_by_brace(code, token, definition)?,
             depth: 0,
             body: Tokens::new(s.alloc()),
             mark: None,
-        }));
+        })),
+        Brace::Right | Brace::Neither => number(s, code, definition, token),
     }
-    number(s, code, definition, token)
 }
 
 fn text_or_mark(
@@ -271,7 +256,7 @@ pub(crate) fn in_params(
     ensures go { IfOk result (λ go. go ≡ (params_row definition mark_before token meaning.now (mouth_of s.old).values).go) }
 {
     if let Some(code) = mark_before {
-        return behind_mark(s, code, definition, token, meaning);
+        return behind_mark(s, code, definition, token);
     }
     match brace(token) {
         Brace::Left => Ok(Move::Used(Push::Begin(Scan::DefBody {

@@ -5,7 +5,7 @@ ghost use Rattle.etx_assign.specs.Assignments.{no_prefixes, with_prefix, is_for_
 ghost use Rattle.etx_assign.specs.Rows.{prefix_text, character_words, shown_primitive, shown_meaning, def_begun, let_begun, simple_begun, left_prefixes, irrelevant, assignment_begun, prefixed_by, prefix_row};
 
 use crate::assignment::{is_global, is_global_def, none};
-use etx_expand::{Failure, Move, Push, push_escape, push_name, push_printed};
+use etx_expand::{Failure, Move, Push, push_escaped, push_name, push_printed};
 use etx_lists::Bytes;
 use etx_matter::{End, Token};
 use etx_prims::{CodeKind, DefKind, LetKind, PrefixKind, Primitive, name_of};
@@ -115,9 +115,7 @@ fn character_words(cat: u8) -> &'static [u8]
 fn push_primitive(s: &State, text: &mut Bytes, primitive: Primitive) -> Result<(), AllocError>
     ensures { OnOk result (text.new ≡ text.old ++ shown_primitive (mouth_of s.now).values primitive) }
 {
-    push_escape(s, text)?;
-    push_printed(s, text, name_of(primitive))?;
-    Ok(())
+    push_escaped(s, text, name_of(primitive))
 }
 
 /// What a token that isn't expanded is, in an error.

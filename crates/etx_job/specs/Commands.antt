@@ -23,7 +23,7 @@ use Rattle.etx_expand.specs.declared.plan.Push.TheVariants.{Nothing, Begin, Grou
 use Rattle.etx_expand.specs.declared.plan.Move.{Move}
 use Rattle.etx_expand.specs.declared.plan.Move.TheVariants.{Used, Stay, Ends}
 use Rattle.etx_expand.specs.Turn.{plain_failure, failure_under, has_category}
-use Rattle.etx_expand.specs.Printing.{escape_in}
+use Rattle.etx_expand.specs.Printing.{escape_in, printed}
 use Rattle.etx_assign.specs.Assignments.{Planned, planned, no_prefixes, with_prefix, is_assignment}
 use Rattle.etx_assign.specs.Rows.{assignment_begun}
 
@@ -36,7 +36,7 @@ begin_row k v = if nat_lt (level v) 10000 then planned (begin v k) (Used Nothing
 abbrev pub right_brace_by : Option GroupKind → Values → Move
 right_brace_by None v = plain_failure (codes "Too many }'s")
 right_brace_by (Some groups.Simple) v = Used GroupEnd
-right_brace_by (Some groups.SemiSimple) v = plain_failure (codes "Extra }, or forgotten " ++ escape_in v ++ codes "endgroup")
+right_brace_by (Some groups.SemiSimple) v = plain_failure (codes "Extra }, or forgotten " ++ printed v (escape_in v ++ codes "endgroup"))
 right_brace_by (Some _) v = Ends Unbuilt
 
 -- a right brace ends a simple group
@@ -48,7 +48,7 @@ abbrev pub missing_brace : Move
 missing_brace = failure_under (codes "Missing } inserted") (token.Char 125 2 ∷ [])
 
 abbrev pub end_group_by : Option GroupKind → Values → Move
-end_group_by None v = plain_failure (codes "Extra " ++ escape_in v ++ codes "endgroup")
+end_group_by None v = plain_failure (codes "Extra " ++ printed v (escape_in v ++ codes "endgroup"))
 end_group_by (Some groups.Simple) v = missing_brace
 end_group_by (Some groups.SemiSimple) v = Used GroupEnd
 end_group_by (Some _) v = Ends Unbuilt
@@ -87,7 +87,7 @@ unfoldable pub primitive_row : Primitive → Token → Values → Planned
 primitive_row prims.Relax t v = planned v (Used Nothing)
 primitive_row prims.Par t v = planned v (Used Nothing)
 primitive_row prims.End t v = planned v (Ends Ended)
-primitive_row prims.EndCsName t v = planned v (plain_failure (codes "Extra " ++ escape_in v ++ codes "endcsname"))
+primitive_row prims.EndCsName t v = planned v (plain_failure (codes "Extra " ++ printed v (escape_in v ++ codes "endcsname")))
 primitive_row (prims.SemiSimpleGroup edge) t v = group_row edge v
 primitive_row (prims.After kind) t v = planned v (after_row kind)
 primitive_row prims.IgnoreSpaces t v = planned v (Used (Begin scan.IgnoreSpaces))

@@ -3,10 +3,10 @@ ghost use Rattle.std.specs.Prelude.{◌≡◌, ◌++◌, OnOk, IfOk};
 ghost use Rattle.etx_state.specs.States.{mouth_of, with_values};
 ghost use Rattle.etx_job.specs.Commands.{begin_row, right_brace_row, missing_brace, end_group_row, group_row, character_row, after_row, message_row, other_row, primitive_row, command_row, ignore_row};
 ghost use Rattle.etx_expand.specs.Turn.{plain_failure};
-ghost use Rattle.etx_expand.specs.Printing.{escape_in};
+ghost use Rattle.etx_expand.specs.Printing.{escape_in, printed};
 
 use etx_assign::{begin, is_assignment, no_prefixes, with_prefix};
-use etx_expand::{Failure, Move, Push, has_category, push_escape};
+use etx_expand::{Failure, Move, Push, has_category, push_escaped};
 use etx_groups::begin as begin_group;
 use etx_input::SharedTokens;
 use etx_lists::Bytes;
@@ -42,11 +42,10 @@ fn fail(s: &State, text: &[u8]) -> Result<Move, AllocError>
 
 /// The same, where the text ends with the name of a primitive.
 fn fail_at(s: &State, text: &[u8], name: &[u8]) -> Result<Move, AllocError>
-    ensures { IfOk result (λ go. go ≡ plain_failure (text.now ++ escape_in (mouth_of s.now).values ++ name.now)) }
+    ensures { IfOk result (λ go. go ≡ plain_failure (text.now ++ printed (mouth_of s.now).values (escape_in (mouth_of s.now).values ++ name.now))) }
 {
     let mut whole = Bytes::from_slice(s.alloc(), text)?;
-    push_escape(s, &mut whole)?;
-    whole.extend_from_slice(name)?;
+    push_escaped(s, &mut whole, name)?;
     fail(s, whole.as_slice())
 }
 
