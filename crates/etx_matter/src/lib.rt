@@ -2,15 +2,29 @@
 //! to the outside.
 #![tactic(auto)]
 
+mod copies;
 mod deed;
 mod end;
+mod glue;
 mod job;
+mod math;
+mod node;
+mod page;
+mod sizes;
 #[cfg(test)]
 mod tests;
 mod token;
+mod whats;
 
+pub use copies::copy_nodes;
 pub use deed::{Audience, Deed};
 pub use end::{End, FatalError, Status};
 pub use etx_lists::{Bytes, Listed, MOST};
+pub use glue::{Glue, GlueOrder, GlueSet};
 pub use job::{GREATEST_BUDGET, Job};
+pub use math::{AtomKind, Class8, Delim, LimitPlace, MathChar, Side, Style, StyleSize};
+pub use node::{BoxNode, Field, KernKind, Leader, LeaderKind, Noad, Noads, Node, Nodes, UnsetBox};
+pub use page::{ClassBox, ClassMarks, Fired, LastItem, PageAsk, PageTotal, Quantity, Removal};
+pub use sizes::{BoxSize, CharSize, Class, Goal, Limits, Report, ReportKind, RuleSize, Size};
 pub use token::{NameId, PAR, Token, Tokens};
+pub use whats::What;
