@@ -1,3 +1,5 @@
 pub mod Ends
 pub mod GlueSets
 pub mod Jobs
+pub mod Nests
+pub mod formers

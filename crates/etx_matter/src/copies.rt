@@ -1,6 +1,7 @@
 //! Copies of nodes and lists. A copy is equal to what it was made of; the only answer beside it is want of memory.
 ghost use Rattle.std.specs.Prelude.{◌≡◌, IfOk};
 
+use crate::boxed::Boxed;
 use crate::node::{BoxNode, Field, Leader, Noad, Node, Nodes, UnsetBox};
 use crate::whats::What;
 use std::alloc::{AllocError, Global};
@@ -95,7 +96,7 @@ impl Leader {
             Leader::Ruled(size) => Ok(Leader::Ruled(*size)),
             Leader::Boxes { kind, item } => Ok(Leader::Boxes {
                 kind: *kind,
-                item: Box::new(alloc, item.copy(alloc)?)?,
+                item: Boxed::new(alloc, item.get().copy(alloc)?)?,
             }),
         }
     }
@@ -110,8 +111,8 @@ impl Field {
         match self {
             Field::Empty => Ok(Field::Empty),
             Field::Symbol(character) => Ok(Field::Symbol(*character)),
-            Field::Boxed(it) => Ok(Field::Boxed(Box::new(alloc, it.copy(alloc)?)?)),
-            Field::Formula(list) => Ok(Field::Formula(copy_nodes(alloc, list)?)),
+            Field::SubBox(it) => Ok(Field::SubBox(Boxed::new(alloc, it.get().copy(alloc)?)?)),
+            Field::SubFormula(list) => Ok(Field::SubFormula(copy_nodes(alloc, list)?)),
         }
     }
 }
@@ -243,7 +244,7 @@ impl Node {
                 width: *width,
             }),
             Node::Unset(it) => Ok(Node::Unset(it.copy(alloc)?)),
-            Node::Noad(noad) => Ok(Node::Noad(Box::new(alloc, noad.copy(alloc)?)?)),
+            Node::Noad(noad) => Ok(Node::Noad(Boxed::new(alloc, noad.get().copy(alloc)?)?)),
         }
     }
 }

@@ -2,12 +2,14 @@
 //! to the outside.
 #![tactic(auto)]
 
+mod boxed;
 mod copies;
 mod deed;
 mod end;
 mod glue;
 mod job;
 mod math;
+mod nests;
 mod node;
 mod page;
 mod sizes;
@@ -16,6 +18,7 @@ mod tests;
 mod token;
 mod whats;
 
+pub use boxed::Boxed;
 pub use copies::copy_nodes;
 pub use deed::{Audience, Deed};
 pub use end::{End, FatalError, Status};
@@ -23,6 +26,7 @@ pub use etx_lists::{Bytes, Listed, MOST};
 pub use glue::{Glue, GlueOrder, GlueSet};
 pub use job::{GREATEST_BUDGET, Job};
 pub use math::{AtomKind, Class8, Delim, LimitPlace, MathChar, Side, Style, StyleSize};
+pub use nests::{DEEPEST, nesting};
 pub use node::{BoxNode, Field, KernKind, Leader, LeaderKind, Noad, Noads, Node, Nodes, UnsetBox};
 pub use page::{ClassBox, ClassMarks, Fired, LastItem, PageAsk, PageTotal, Quantity, Removal};
 pub use sizes::{BoxSize, CharSize, Class, Goal, Limits, Report, ReportKind, RuleSize, Size};

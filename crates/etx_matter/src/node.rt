@@ -1,4 +1,5 @@
 //! Nodes, of which lists, boxes and formulas are made ("TeX: The Program", sections 133 to 161 and 680 to 689).
+use crate::boxed::Boxed;
 use crate::glue::{Glue, GlueOrder, GlueSet};
 use crate::math::{AtomKind, Delim, MathChar, Side, Style};
 use crate::sizes::{CharSize, RuleSize};
@@ -82,7 +83,7 @@ pub enum Node {
     /// A row or a cell of an alignment whose columns have no width yet.
     Unset(UnsetBox),
     /// A part of a formula.
-    Noad(Box<Noad>),
+    Noad(Boxed<Noad>),
 }
 
 /// A box. In a horizontal one the items stand side by side on its baseline, in a vertical one below each other.
@@ -128,7 +129,7 @@ pub enum Leader {
     /// As many copies of a box as the space holds.
     Boxes {
         kind: LeaderKind,
-        item: Box<BoxNode>,
+        item: Boxed<BoxNode>,
     },
 }
 
@@ -180,7 +181,7 @@ pub enum Field {
     /// A character.
     Symbol(MathChar),
     /// A box that is set already.
-    Boxed(Box<BoxNode>),
+    SubBox(Boxed<BoxNode>),
     /// A formula.
-    Formula(Noads),
+    SubFormula(Noads),
 }
