@@ -44,24 +44,24 @@ box_step it = suc (most it.list)
 abbrev pub unset_step : UnsetBox-F ℕ ℕ ℕ ℕ ℕ ℕ → ℕ
 unset_step it = suc (most it.list)
 
-abbrev pub node_nesting : Node → ℕ
+unfoldable pub node_nesting : Node → ℕ
 node_nesting = fold-Node ℕ ℕ ℕ ℕ ℕ ℕ field_step leader_step noad_step node_step box_step unset_step
 
-abbrev pub leader_nesting : Leader → ℕ
+unfoldable pub leader_nesting : Leader → ℕ
 leader_nesting = fold-Leader ℕ ℕ ℕ ℕ ℕ ℕ field_step leader_step noad_step node_step box_step unset_step
 
-abbrev pub noad_nesting : Noad → ℕ
+unfoldable pub noad_nesting : Noad → ℕ
 noad_nesting = fold-Noad ℕ ℕ ℕ ℕ ℕ ℕ field_step leader_step noad_step node_step box_step unset_step
 
-abbrev pub field_nesting : Field → ℕ
+unfoldable pub field_nesting : Field → ℕ
 field_nesting = fold-Field ℕ ℕ ℕ ℕ ℕ ℕ field_step leader_step noad_step node_step box_step unset_step
 
 -- the greatest depth of a list's items
-abbrev pub list_nesting : List Node → ℕ
+unfoldable pub list_nesting : List Node → ℕ
 list_nesting ns = most (map node_nesting ns)
 
-abbrev pub box_nesting : BoxNode → ℕ
+unfoldable pub box_nesting : BoxNode → ℕ
 box_nesting it = suc (list_nesting it.list)
 
-abbrev pub unset_nesting : UnsetBox → ℕ
+unfoldable pub unset_nesting : UnsetBox → ℕ
 unset_nesting it = suc (list_nesting it.list)

@@ -9,8 +9,11 @@ mod end;
 mod glue;
 mod job;
 mod math;
+mod measures;
 mod nests;
 mod node;
+#[cfg(test)]
+mod node_tests;
 mod page;
 mod sizes;
 #[cfg(test)]

@@ -1,4 +1,6 @@
 //! How deep lists stand in nodes.
+#![tactic(auto, unfolding(crate::specs::Nests::list_nesting, crate::specs::Nests::node_nesting, crate::specs::Nests::box_nesting, crate::specs::Nests::unset_nesting, crate::specs::Nests::leader_nesting, crate::specs::Nests::noad_nesting, crate::specs::Nests::field_nesting))]
+
 ghost use Rattle.std.specs.Prelude.{◌≡◌, ◌≤◌, ◌+◌, min};
 ghost use Rattle.etx_matter.specs.Nests.{list_nesting, node_nesting as nesting_of_node, box_nesting as nesting_of_box, unset_nesting as nesting_of_unset, leader_nesting as nesting_of_leader, noad_nesting as nesting_of_noad, field_nesting as nesting_of_field};
 

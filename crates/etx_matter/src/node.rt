@@ -40,7 +40,11 @@ pub enum LeaderKind {
 #[derive(Drop)]
 pub enum Node {
     /// A character of a font, by the font's number, with the sizes that the font gives it.
-    Char { font: u8, code: u8, size: CharSize },
+    Char {
+        font: u8,
+        code: u8,
+        size: CharSize,
+    },
     /// A ligature: the character that is set, the letters that it stands for, and whether the boundary of the word was
     /// part of it on the left and on the right.
     Lig {
@@ -51,8 +55,14 @@ pub enum Node {
         left: bool,
         right: bool,
     },
-    Kern { width: i32, kind: KernKind },
-    Glue { glue: Glue, leader: Leader },
+    Kern {
+        width: i32,
+        kind: KernKind,
+    },
+    Glue {
+        glue: Glue,
+        leader: Leader,
+    },
     Penalty(i32),
     Rule(RuleSize),
     Box(BoxNode),
@@ -67,7 +77,10 @@ pub enum Node {
         list: Nodes,
     },
     /// A mark of a class from 0 to 32767.
-    Mark { class: u16, tokens: Tokens },
+    Mark {
+        class: u16,
+        tokens: Tokens,
+    },
     /// Vertical material that goes behind the line in which it stands.
     Adjust(Nodes),
     /// A place for a hyphen. Where a line is broken there, `pre` ends it, `post` begins the next one, and the next
@@ -79,7 +92,10 @@ pub enum Node {
     },
     What(What),
     /// The start, or the end, of a formula in a paragraph, with the space `\mathsurround` there.
-    Math { on: bool, width: i32 },
+    Math {
+        on: bool,
+        width: i32,
+    },
     /// A row or a cell of an alignment whose columns have no width yet.
     Unset(UnsetBox),
     /// A part of a formula.
@@ -154,7 +170,10 @@ pub enum Noad {
         right: Delim,
     },
     /// A delimiter that grows with the formula: `\left`, `\middle` or `\right`.
-    Fence { side: Side, delim: Delim },
+    Fence {
+        side: Side,
+        delim: Delim,
+    },
     /// From here on the style is this one.
     InStyle(Style),
     /// `\mathchoice`: the list for the style that it is set in.

@@ -68,21 +68,21 @@ pub enum PageAsk {
 #[derive(Clone, Copy, Debug, PartialEq, Eq)]
 pub enum Quantity {
     /// `\prevgraf` of the outermost vertical list.
-    PrevGraf,
+    Prevgraf,
     /// Its `\prevdepth`, in sp.
-    PrevDepth,
+    Prevdepth,
     /// The badness of the last packing.
-    LastBadness,
+    Badness,
     /// A total of the page, in sp.
-    OfPage(PageTotal),
+    Total(PageTotal),
     /// `\insertpenalties`.
-    PenaltiesHeld,
+    InsertPenalties,
     /// `\deadcycles`.
-    CyclesDead,
+    DeadCycles,
     /// How many errors there were since the last paragraph.
-    ErrorCount,
+    Errors,
     /// 1 where a paragraph was broken with hyphenation, else 0.
-    SecondPassMark,
+    SecondPass,
 }
 
 /// A box for the register of an insertion class.
