@@ -1,7 +1,7 @@
 //! Nodes and lists of them, with ample memory.
 use crate::{
-    AtomKind, BoxNode, Boxed, CharSize, Delim, Field, Glue, GlueOrder, GlueSet, KernKind, Leader,
-    LeaderKind, LimitPlace, MathChar, Noad, Node, Nodes, RuleSize, What, copy_nodes, nesting,
+    AtomKind, BoxNode, Boxed, Field, Glue, GlueOrder, GlueSet, Leader, LeaderKind, LimitPlace,
+    MathChar, Noad, Node, Nodes, RuleSize, What, copy_nodes, nesting,
 };
 use etx_lists::Bytes;
 use std::alloc::{AllocError, Global};
@@ -96,5 +96,82 @@ fn a_rule_that_runs_has_no_width(rt: HostRuntime) -> Result<(), Fail> {
     })
     .copy(rt.alloc())?;
     assert!(rt; rule.width() == 0 && rule.height() == 7 && rule.depth() == 8);
+    Ok(())
+}
+
+fn atom(alloc: Global) -> Result<Node, AllocError> {
+    let noad = Noad::Atom {
+        kind: AtomKind::Op(LimitPlace::Beside),
+        nucleus: Field::Symbol(MathChar {
+            family: 1,
+            code: 97,
+        }),
+        superscript: Field::SubBox(Boxed::new(alloc, boxed(false, Nodes::new(alloc)))?),
+        subscript: Field::SubFormula(Nodes::new(alloc)),
+    };
+    Ok(Node::Noad(Boxed::new(alloc, noad)?))
+}
+
+fn special(alloc: Global) -> Result<Node, AllocError> {
+    let text = Bytes::from_slice(alloc, b"ink")?;
+    Ok(Node::What(What::Special(text)))
+}
+
+/// Glue of a leader's boxes.
+fn dots(alloc: Global) -> Result<Node, AllocError> {
+    let item = Boxed::new(alloc, boxed(false, Nodes::new(alloc)))?;
+    let glue = Glue {
+        width: 9,
+        stretch: 1,
+        shrink: 0,
+        stretch_order: GlueOrder::Filll,
+        shrink_order: GlueOrder::Normal,
+    };
+    Ok(Node::Glue {
+        glue,
+        leader: Leader::Boxes {
+            kind: LeaderKind::Centered,
+            item,
+        },
+    })
+}
+
+fn is_dots(node: &Node) -> bool {
+    match node {
+        Node::Glue {
+            glue,
+            leader: Leader::Boxes { item, .. },
+        } => { glue.stretch_order == GlueOrder::Filll && item.get().shift == 4 }
+        _ => false,
+    }
+}
+
+fn is_atom(node: &Node) -> bool {
+    match node {
+        Node::Noad(noad) => match noad.get() {
+            Noad::Atom {
+                superscript: Field::SubBox(it),
+                subscript: Field::SubFormula(list),
+                ..
+            } => { it.get().height == 2 && list.is_empty() }
+            _ => false,
+        },
+        _ => false,
+    }
+}
+
+fn is_ink(node: &Node) -> bool {
+    match node {
+        Node::What(What::Special(text)) => text.as_slice() == b"ink".as_slice(),
+        _ => false,
+    }
+}
+
+#[test]
+fn parts_behind_a_box_are_copied(rt: HostRuntime) -> Result<(), Fail> {
+    let alloc = rt.alloc();
+    assert!(rt; is_atom(&atom(alloc)?.copy(alloc)?));
+    assert!(rt; is_dots(&dots(alloc)?.copy(alloc)?));
+    assert!(rt; is_ink(&special(alloc)?.copy(alloc)?));
     Ok(())
 }
