@@ -4,9 +4,8 @@
     bench/lists.py
 
 It builds a small program over a copy of crates/etx_matter in a folder of its own, with `rt`, and runs it. That takes some
-minutes. It asks that the time of
-each step on 2^20 nodes is at most 12 times that on 2^18, so that it grows with the length and not with its square. It
-is no part of the gate. Exit status 1 where something is not as asked.
+minutes. It asks that the time of each step on 2^20 nodes is at most 12 times that on 2^18, so that it grows with the
+length and not with its square. It is no part of the gate. Exit status 1 where something is not as asked.
 """
 import os
 import shutil

@@ -1,5 +1,5 @@
 -- The nesting of lists put together.
-use Rattle.std.proofs.Common.{◌≡◌, refl, ap, ℕ, max, List, [], ◌∷◌, ◌++◌, map, arith}
+use Rattle.std.proofs.Common.{◌≡◌, ap, ℕ, max, List, [], ◌∷◌, ◌++◌, map, arith}
 use Rattle.std.proofs.lemmas.List.{map-append}
 use Rattle.etx_matter.specs.declared.node.Node.{Node}
 use Rattle.etx_matter.specs.Nests.{most, node_nesting, list_nesting}

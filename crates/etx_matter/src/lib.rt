@@ -1,5 +1,5 @@
-//! The data that every layer of `etx` speaks of: tokens, jobs, the ends of a job, and deeds, which are what a job does
-//! to the outside.
+//! The data that every layer of `etx` speaks of: tokens, nodes and lists of them, jobs, the ends of a job, and deeds, which
+//! are what a job does to the outside.
 #![tactic(auto)]
 
 mod boxed;
