@@ -94,12 +94,14 @@ impl GlueSet {
         self.order
     }
 
+    /// The numerator of the fraction.
     pub fn num(self) -> i64
         ensures { result ≡ self.num }
     {
         self.num
     }
 
+    /// The denominator of the fraction, at least 1.
     pub fn den(self) -> i64
         ensures value { result ≡ self.den }
         ensures positive { pos 1 ≤ℤ result }

@@ -55,16 +55,21 @@ pub enum Node {
         left: bool,
         right: bool,
     },
+    /// A space of a fixed width, or of a fixed height in a vertical list.
     Kern {
         width: i32,
         kind: KernKind,
     },
+    /// A space that can stretch and shrink, and what fills it.
     Glue {
         glue: Glue,
         leader: Leader,
     },
+    /// How bad a break is here: there is none from 10000 on, and at -10000 or below it is forced.
     Penalty(i32),
+    /// A black rectangle.
     Rule(RuleSize),
+    /// A box whose glue is set.
     Box(BoxNode),
     /// An insertion of a class from 0 to 254: its list, the natural height plus depth, `\splitmaxdepth`,
     /// `\floatingpenalty` and `\splittopskip` as they were when it was made.
@@ -90,6 +95,7 @@ pub enum Node {
         post: Nodes,
         replaces: u16,
     },
+    /// Something that is done when the page is shipped, or that a paragraph's hyphenation goes by.
     What(What),
     /// The start, or the end, of a formula in a paragraph, with the space `\mathsurround` there.
     Math {
@@ -102,7 +108,8 @@ pub enum Node {
     Noad(Boxed<Noad>),
 }
 
-/// A box. In a horizontal one the items stand side by side on its baseline, in a vertical one below each other.
+/// A box, with its sizes in sp. In a horizontal one the items stand side by side on its baseline, in a vertical one below
+/// each other.
 #[cycle(nodes)]
 #[derive(Drop)]
 pub struct BoxNode {
@@ -116,7 +123,7 @@ pub struct BoxNode {
     pub list: Nodes,
 }
 
-/// A box of an alignment before its glue is set.
+/// A box of an alignment before its glue is set, with its natural sizes in sp.
 #[cycle(nodes)]
 #[derive(Drop)]
 pub struct UnsetBox {
