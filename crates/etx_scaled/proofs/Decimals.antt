@@ -47,7 +47,7 @@ one_more zero places s delta h enough =
 one_more (suc k) zero s delta h enough = absurd (omega arith)
 one_more (suc k) (suc places) s delta h enough =
     after_first (suc (suc places)) (suc places) s delta
-        (one_more k places (10 * (rounded s delta % 65536)) (10 * delta) (omega arith) (ten_times delta (10 ^ k) (rw (← pow-suc 10 k) enough)))
+    (one_more k places (10 * (rounded s delta % 65536)) (10 * delta) (omega arith) (ten_times delta (10 ^ k) (rw (← pow-suc 10 k) enough)))
 
 pub places_enough : (f places : ℕ) → 5 ≤ places → fraction_digits places (10 * f + 5) 10 ≡ fraction_digits 5 (10 * f + 5) 10
 places_enough f zero h = absurd (omega arith)
