@@ -13,6 +13,7 @@ where a word differs or a pattern is refused.
 """
 import os
 import re
+import resource
 import shutil
 import struct
 import subprocess
@@ -21,6 +22,7 @@ import tempfile
 
 HERE = os.path.dirname(os.path.dirname(os.path.abspath(__file__)))
 BATCH = 1_000_000
+LONGEST = ("antidisestablishmentarianism" * 3)[:63]
 
 WORDS = """
 ability absolute academy accidental accommodation accomplish account acknowledge acquaintance active adaptation
@@ -68,17 +70,15 @@ university unusual vacation variable vegetable vehicle velocity version vocabula
 wednesday wilderness wonderful yesterday zoology
 """.split()
 
-# Reads patterns, exceptions and words; by its lines the tables become a copy, and look-ups are timed.
 PROGRAM = r"""// Reads hyphenation tables and words, and writes where each word may be broken.
 //
 // A line is `p` and a pattern, `x` and a word with hyphens, `w` and a word, or `t` and how many times all words are looked
-// up, which is timed. Any other line puts a copy in the place of the tables.
+// up. Any other line puts a copy in the place of the tables.
 #![tactic(auto)]
 
 use etx_patterns::{PatternRefused, Patterns, Step};
 use std::alloc::{AllocError, Global};
 use std::io;
-use std::time::Instant;
 
 fn steps_of(alloc: Global, text: &[u8]) -> Result<Vec<Step>, AllocError> {
     let mut steps = Vec::new(alloc);
@@ -172,15 +172,13 @@ fn show(rt: &HostRuntime, tables: &Patterns, text: &str) -> io::Result<()> {
     Ok(())
 }
 
-fn time(rt: &HostRuntime, tables: &Patterns, words: &[String], rounds: &str) -> io::Result<()> {
+fn repeat(rt: &HostRuntime, tables: &Patterns, words: &[String], rounds: &str) -> io::Result<()> {
     let rounds: u32 = rounds.parse().unwrap_or(1);
-    let start = Instant::now(rt)?;
     let mut found = 0u64;
     for _round in 0..rounds {
         found = found.wrapping_add(look_up(tables, words)?);
     }
-    let nanoseconds = start.elapsed(rt)?.as_nanos();
-    println!(rt; "time {rounds} {found} {nanoseconds}")
+    println!(rt; "found {found}")
 }
 
 fn obey(rt: &HostRuntime, tables: &mut Patterns, words: &mut Vec<String>, line: &str) -> io::Result<()> {
@@ -191,7 +189,7 @@ fn obey(rt: &HostRuntime, tables: &mut Patterns, words: &mut Vec<String>, line: 
         return report(rt, except(rt.alloc(), tables, text.as_bytes()), text);
     }
     if let Some(text) = line.strip_prefix("t ") {
-        return time(rt, tables, words.as_slice(), text);
+        return repeat(rt, tables, words.as_slice(), text);
     }
     match line.strip_prefix("w ") {
         Some(text) => {
@@ -279,24 +277,36 @@ def program(folder):
     return built
 
 
-def ask(built, patterns, exceptions, words, rounds):
-    """What the program says of words: each with its hyphens, the refusals, and the nanoseconds of all rounds."""
-    half = len(words) // 2
-    lines = ["p " + pattern for pattern in patterns] + ["x " + word for word in exceptions]
-    lines += ["w " + word for word in words[:half]] + ["copy"] + ["w " + word for word in words[half:]] + [f"t {rounds}"]
+def run(built, lines):
+    """What the program writes, and the seconds of the processor that it takes."""
+    before = resource.getrusage(resource.RUSAGE_CHILDREN)
     output = subprocess.run([built], input="\n".join(lines) + "\n", stdout=subprocess.PIPE, text=True, check=True).stdout
-    shown, refused, time = [], [], 0
-    for line in output.splitlines():
+    after = resource.getrusage(resource.RUSAGE_CHILDREN)
+    return output, after.ru_utime + after.ru_stime - before.ru_utime - before.ru_stime
+
+
+def nanoseconds(built, loaded, words, rounds):
+    """How long the program takes to look a word up, on one processor."""
+    lines = loaded + ["w " + word for word in words]
+    _, idle = run(built, lines + ["t 0"])
+    _, busy = run(built, lines + [f"t {rounds}"])
+    return (busy - idle) * 1e9 / (rounds * len(words))
+
+
+def by_crate(built, loaded, words):
+    """Each word with its hyphens by the crate, half of them by a copy of the tables, and what was refused."""
+    half = len(words) // 2
+    lines = loaded + ["w " + word for word in words[:half]] + ["copy"] + ["w " + word for word in words[half:]]
+    shown, refused = [], []
+    for line in run(built, lines)[0].splitlines():
         kind, _, text = line.partition(" ")
-        if kind == "word":
+        if kind == "refused":
+            refused.append(text)
+        else:
             word, _, places = text.partition(" ")
             cuts = [0] + [int(place) for place in re.findall(r"\d+", places)] + [len(word)]
             shown.append("-".join(word[a:b] for a, b in zip(cuts, cuts[1:])))
-        elif kind == "refused":
-            refused.append(text)
-        elif kind == "time":
-            time = int(text.split()[2])
-    return shown, refused, time
+    return shown, refused
 
 
 def main():
@@ -311,23 +321,21 @@ def main():
             words |= {word for word in re.findall(r"\b[a-z]+\b", file.read()) if len(word) <= 63}
     words = sorted(words)
     patterns, exceptions = tables(hyphen)
+    loaded = ["p " + pattern for pattern in patterns] + ["x " + word for word in exceptions]
     with tempfile.TemporaryDirectory() as folder:
         built = program(folder)
-        rounds = -(-BATCH // len(words))
-        ours, refused, time = ask(built, patterns, exceptions, words, rounds)
+        ours, refused = by_crate(built, loaded, words)
         theirs = by_tex(words, hyphen, folder)
-        long_word = ("antidisestablishmentarianism" * 3)[:63]
-        _, _, long_time = ask(built, patterns, exceptions, [long_word], 100_000)
-        _, _, empty_time = ask(built, [], [], [long_word], 100_000)
+        rounds = -(-BATCH // len(words))
+        common = nanoseconds(built, loaded, words, rounds)
+        longest = nanoseconds(built, loaded, [LONGEST], 100_000)
     differing = [(our, their) for our, their in zip(ours, theirs) if our != their]
     for our, their in differing[:20]:
         print(f"differs: {our} here, {their} by e-TeX")
-    hyphens = sum(word.count("-") for word in theirs)
-    print(f"{len(patterns)} patterns, {len(exceptions)} exceptions, refused: {len(refused)} {refused[:3]}")
-    print(f"{len(words)} words with {hyphens} hyphens, {len(differing)} differences")
-    looked_up = rounds * len(words)
-    print(f"breaks: {looked_up} words in {time / 1e9:.2f} s, {time / looked_up:.0f} ns a word of {sum(map(len, words)) / len(words):.1f} letters on average")
-    print(f"breaks: {long_time / 1e5:.0f} ns a word of 63 letters with {len(patterns)} patterns, {empty_time / 1e5:.0f} ns with none")
+    print(f"{len(patterns)} patterns, {len(exceptions)} exceptions, {len(refused)} refused")
+    print(f"{len(words)} words with {sum(word.count('-') for word in theirs)} hyphens, {len(differing)} differences")
+    print(f"{rounds * len(words)} look-ups of these words: {common * rounds * len(words) / 1e9:.2f} s of one processor, {common:.0f} ns each")
+    print(f"a look-up of a word of {len(LONGEST)} letters: {longest:.0f} ns")
     return 1 if differing or refused or len(ours) != len(words) else 0
 
 
