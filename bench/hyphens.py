@@ -270,10 +270,11 @@ def program(folder):
     with open(os.path.join(folder, "crates.txt"), "w", encoding="ascii") as file:
         file.write("etx_lists:\netx_patterns: etx_lists\nhyphens: etx_patterns\n")
     crate = os.path.join(folder, "crates", "hyphens")
-    run = subprocess.run(["rt", "run"], cwd=crate, stdin=subprocess.DEVNULL, stdout=subprocess.PIPE, stderr=subprocess.STDOUT, text=True)
+    said = subprocess.run(["rt", "run"], cwd=crate, stdin=subprocess.DEVNULL, stdout=subprocess.PIPE,
+                          stderr=subprocess.STDOUT, text=True, check=False).stdout
     built = os.path.join(crate, "out", "hyphens")
     if not os.access(built, os.X_OK):
-        sys.exit("the program could not be built:\n" + run.stdout[-3000:])
+        sys.exit("the program could not be built:\n" + said[-3000:])
     return built
 
 
@@ -309,8 +310,15 @@ def by_crate(built, loaded, words):
     return shown, refused
 
 
+def find_patterns():
+    """The path of hyphen.tex, or the empty text."""
+    if not shutil.which("kpsewhich"):
+        return ""
+    return subprocess.run(["kpsewhich", "hyphen.tex"], stdout=subprocess.PIPE, text=True, check=False).stdout.strip()
+
+
 def main():
-    hyphen = subprocess.run(["kpsewhich", "hyphen.tex"], stdout=subprocess.PIPE, text=True, check=False).stdout.strip() if shutil.which("kpsewhich") else ""
+    hyphen = find_patterns()
     missing = [name for name in ("pdftex", "rt") if not shutil.which(name)] + ([] if hyphen else ["hyphen.tex"])
     if missing:
         print("skipped: missing are " + ", ".join(missing))
@@ -334,7 +342,8 @@ def main():
         print(f"differs: {our} here, {their} by e-TeX")
     print(f"{len(patterns)} patterns, {len(exceptions)} exceptions, {len(refused)} refused")
     print(f"{len(words)} words with {sum(word.count('-') for word in theirs)} hyphens, {len(differing)} differences")
-    print(f"{rounds * len(words)} look-ups of these words: {common * rounds * len(words) / 1e9:.2f} s of one processor, {common:.0f} ns each")
+    looked_up = rounds * len(words)
+    print(f"{looked_up} look-ups of these words: {common * looked_up / 1e9:.2f} s of one processor, {common:.0f} ns each")
     print(f"a look-up of a word of {len(LONGEST)} letters: {longest:.0f} ns")
     return 1 if differing or refused or len(ours) != len(words) else 0
 
