@@ -6,9 +6,7 @@ use etx_lists::Bytes;
 use etx_macros::Pattern;
 use etx_matter::{Job, NameId, PAR, Token, Tokens};
 use etx_prims::{IntParam, Primitive};
-use etx_state::{
-    Capacity, Entry, GroupKind, Key, Limit, Macro, Meaning, Scan, State, Val,
-};
+use etx_state::{Capacity, Entry, GroupKind, Key, Limit, Macro, Meaning, Scan, State, Val};
 use std::alloc::{AllocError, Global};
 use std::test::Fail;
 
@@ -53,10 +51,12 @@ fn notes(s: &mut State, parameter: u8) -> bool {
 /// Whether this parameter is read next, as a fresh token.
 fn reads(s: &mut State, parameter: u8) -> bool {
     match s.next() {
-        Ok(Next::Listed {
-            token: Token::Param(n),
-            origin: Origin::Fresh,
-        }) => n == parameter,
+        Ok(
+            Next::Listed {
+                token: Token::Param(n),
+                origin: Origin::Fresh,
+            },
+        ) => n == parameter,
         _ => false,
     }
 }
@@ -192,13 +192,20 @@ fn is_undefined(s: &State, token: Token) -> bool {
 }
 
 #[test]
-fn an_active_character_means_a_macro_up_to_the_end_of_the_group(rt: HostRuntime) -> Result<(), Fail> {
+fn an_active_character_means_a_macro_up_to_the_end_of_the_group(
+    rt: HostRuntime,
+) -> Result<(), Fail> {
     let mut s = opened(rt.alloc())?;
     let tie = Token::Char { code: 126, cat: 13 };
     assert!(rt; is_undefined(&s, tie) && opens(&mut s, GroupKind::Simple));
     assert!(rt; defines(rt.alloc(), &mut s)?);
     assert!(rt; means_it(&s, tie));
-    assert!(rt; matches!(s.meaning_of(Token::Char { code: 126, cat: 12 }), Ok(Meaning::Char { code: 126, cat: 12 })));
+    assert!(rt;
+        matches!(
+            s.meaning_of(Token::Char { code: 126, cat: 12 }),
+            Ok(Meaning::Char { code: 126, cat: 12 })
+        )
+    );
     assert!(rt; closes(&mut s).is_some() && is_undefined(&s, tie));
     Ok(())
 }

@@ -12,8 +12,7 @@ full n le e = grind (arith, nat_tests)
 pub returns-in-None-clause-full : goal.returns-in-None-clause-full
 unfolding has_room number_of
 returns-in-None-clause-full c =
-    let at = c.in-None.ensures.place in
-    (
+    let at = c.in-None.ensures.place in (
       λ e. ap (λ (n : ℕ). nat_lt n 1048576) at ∙ no_room _ (c.add_name.ensures.full.0 e),
       λ e. c.add_name.ensures.full.1 (full _ c.find.ensures.most (sym (ap (λ (n : ℕ). nat_lt n 1048576) at) ∙ e)),
     )
