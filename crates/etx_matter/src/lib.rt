@@ -4,6 +4,7 @@
 
 mod deed;
 mod end;
+mod font;
 mod job;
 #[cfg(test)]
 mod tests;
@@ -12,5 +13,6 @@ mod token;
 pub use deed::{Audience, Deed};
 pub use end::{End, FatalError, Status};
 pub use etx_lists::{Bytes, Listed, MOST};
+pub use font::{CharInfo, CharTag, Dimensions, Font, FontHeader, FontInfo, LigStep, PairAction, Recipe, Size};
 pub use job::{GREATEST_BUDGET, Job};
 pub use token::{NameId, PAR, Token, Tokens};
