@@ -1,1 +1,4 @@
+pub mod Headers
+pub mod Lengths
+pub mod Numbers
 pub mod Words

@@ -20,16 +20,15 @@ pub fn read_words(alloc: Global, bytes: &[u8]) -> Result<Vec<Word>, AllocError>
     ensures { IfOk result (λ it. it.items ≡ words_of bytes.now) }
 {
     let mut words = Vec::new(alloc);
-    let mut bytes = bytes;
-    while let [a, b, c, d, rest @ ..] = bytes {
-        let word = Word {
+    let mut rest = bytes;
+    while let [a, b, c, d, behind @ ..] = rest {
+        words.push(Word {
             a: *a,
             b: *b,
             c: *c,
             d: *d,
-        };
-        words.push(word)?;
-        bytes = rest;
+        })?;
+        rest = behind;
     }
     Ok(words)
 }
