@@ -1,6 +1,6 @@
 -- The tables of a font, and what may be wrong with them, by the definition of TFM ("TeX: The Program", sections 543 to
 -- 546, and 569 to 574, where TeX refuses them).
-use Rattle.std.specs.Prelude.{ℕ, zero, suc, ◌≡◌, ◌+◌, ◌-◌, Bool, true, false, ◌&&◌, ◌||◌, ◌==◌, nat_lt, nat_le, if◌then◌else◌, List, [], ◌∷◌, length, slice_get, Option, None, Some, is_none}
+use Rattle.std.specs.Prelude.{ℕ, zero, suc, ◌≡◌, ◌≤◌, ◌+◌, ◌-◌, Bool, true, false, ◌&&◌, ◌||◌, ◌==◌, nat_lt, nat_le, if◌then◌else◌, List, [], ◌∷◌, length, slice_get, Option, None, Some, is_none}
 use Rattle.std.specs.List.{list_any}
 use Rattle.std.specs.Option.{option_map_or, option_and_then}
 use Rattle.etx_matter.specs.declared.font.CharTag.{CharTag}
@@ -11,6 +11,7 @@ use Rattle.etx_matter.specs.declared.font.PairAction.TheVariants.{Kern, Ligature
 use Rattle.etx_matter.specs.declared.font.LigStep.{LigStep}
 use Rattle.etx_matter.specs.declared.font.LigStep.TheVariants.{Pair, Elsewhere}
 use Rattle.etx_matter.specs.declared.font.Recipe.{Recipe}
+use Rattle.etx_matter.specs.declared.font.Dimensions.{Dimensions}
 use Rattle.etx_matter.specs.declared.font.FontInfo.{FontInfo}
 
 -- a font as contracts see it
@@ -67,14 +68,14 @@ has_bad_tag font (Program step) = nat_le (length font.steps) step
 has_bad_tag font (Successor code) = is_none (info_at font code)
 has_bad_tag font (Extensible recipe) = nat_le (length font.recipes) recipe
 
+abbrev pub has_bad_dimension : Dimensions → CharInfo → Bool
+has_bad_dimension d c =
+    nat_le (length d.widths) c.width || nat_le (length d.heights) c.height
+    || nat_le (length d.depths) c.depth || nat_le (length d.italics) c.italic
+
 -- a place in a table isn't below the table's length
 abbrev pub has_bad_place : FontInfo → CharInfo → Bool
-has_bad_place font c =
-    nat_le (length font.dimensions.widths) c.width
-    || nat_le (length font.dimensions.heights) c.height
-    || nat_le (length font.dimensions.depths) c.depth
-    || nat_le (length font.dimensions.italics) c.italic
-    || has_bad_tag font c.tag
+has_bad_place font c = has_bad_dimension font.dimensions c || has_bad_tag font c.tag
 
 -- damage of the kind Char
 unfoldable pub has_bad_characters : FontInfo → Bool
@@ -121,8 +122,9 @@ has_bad_recipe font r =
 unfoldable pub has_bad_recipes : FontInfo → Bool
 has_bad_recipes font = list_any (has_bad_recipe font) font.recipes
 
--- every place and code in a font's tables leads to something
+-- codes are at most 255, and every place and code in a font's tables leads to something
 pub record IsSound (font : FontInfo) : Type 0 where
+  pub codes : font.first + length font.characters ≤ 256
   pub characters : has_bad_characters font ≡ false
   pub steps : has_bad_steps font ≡ false
   pub recipes : has_bad_recipes font ≡ false

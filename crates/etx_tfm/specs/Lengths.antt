@@ -62,7 +62,7 @@ parameters_at n = recipes_at n + n.recipes
 abbrev pub total : Lengths → ℕ
 total n = parameters_at n + n.parameters + 6
 
-abbrev pub all_lengths : Lengths → List ℕ
+unfoldable pub all_lengths : Lengths → List ℕ
 all_lengths n =
     n.file ∷ n.header ∷ n.first ∷ n.last ∷ n.widths ∷ n.heights ∷ n.depths ∷ n.italics ∷ n.steps ∷ n.kerns ∷ n.recipes
     ∷ n.parameters ∷ []

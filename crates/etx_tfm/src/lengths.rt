@@ -1,7 +1,7 @@
 //! The twelve numbers at the front of a TFM file, and where its tables begin.
 ghost use Rattle.std.specs.Prelude.{◌≡◌, ◌+◌, ◌*◌, ◌≤◌, ◌<◌, length};
 ghost use Rattle.std.specs.List.{list_any};
-ghost use Rattle.std.specs.Prelude.{nat_le};
+ghost use Rattle.std.specs.Prelude.{nat_le, ◌==◌};
 ghost use Rattle.etx_tfm.specs.Lengths.{half_at, lengths_of, all_lengths, character_count, has_bad_codes, has_empty_table, has_wrong_sizes, characters_at, widths_at, heights_at, depths_at, italics_at, steps_at, kerns_at, recipes_at, parameters_at, total};
 
 use byteorder::{BigEndian, ByteOrder};
@@ -67,6 +67,7 @@ fn has_large(lengths: &[u16]) -> bool
 }
 
 impl Lengths {
+    #[tactic(auto, unfolding(crate::specs::Lengths::all_lengths))]
     fn all(&self) -> [u16; 12]
         ensures { result ≡ all_lengths self.now }
     {
@@ -158,7 +159,7 @@ impl Lengths {
         self.recipes_at() + usize::from(self.recipes)
     }
 
-    /// The length of a file with these tables.
+    /// The length, in words, of a file with these tables.
     fn total(&self) -> usize
         ensures { result ≡ total self.now }
     {
@@ -179,14 +180,21 @@ impl Lengths {
         self.widths == 0 || self.heights == 0 || self.depths == 0 || self.italics == 0
     }
 
+    fn adds_up(&self) -> bool
+        ensures { result ≡ (self.now.file == total self.now) }
+    {
+        let file = self.file;
+        usize::from(file) == self.total()
+    }
+
     /// Whether the lengths are wrong in themselves or don't add up.
     #[tactic(auto, unfolding(crate::specs::Lengths::has_wrong_sizes))]
     pub fn has_wrong_sizes(&self) -> bool
         ensures { result ≡ has_wrong_sizes self.now }
     {
-        has_large(&self.all())
-            || self.has_bad_codes()
-            || usize::from(self.file) != self.total()
-            || self.has_empty_table()
+        if has_large(&self.all()) || self.has_bad_codes() {
+            return true;
+        }
+        !self.adds_up() || self.has_empty_table()
     }
 }
