@@ -1,5 +1,5 @@
 //! The header of a TFM file.
-ghost use Rattle.std.specs.Prelude.{◌≡◌, ◌≤◌, length};
+ghost use Rattle.std.specs.Prelude.{◌≡◌, ◌≤◌, ◌<◌, length, IfSome};
 ghost use Rattle.etx_tfm.specs.Headers.{size_of, header_of};
 
 use crate::lengths::Lengths;
@@ -21,7 +21,8 @@ fn size_of(design_size: u32, size: Size) -> u64
 #[tactic(auto, unfolding(crate::specs::Headers::has_bad_header))]
 pub fn read_header(bytes: &[u8], lengths: &Lengths, size: Size) -> Option<FontHeader>
     requires { 2 ≤ lengths.now.header → 32 ≤ length bytes.now }
-    ensures { result ≡ header_of bytes.now lengths.now size }
+    ensures value { result ≡ header_of bytes.now lengths.now size }
+    ensures small { IfSome result (λ header. header.size < 134217728) }
 {
     if lengths.header < 2 {
         return None;
