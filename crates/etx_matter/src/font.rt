@@ -5,17 +5,6 @@ ghost use Rattle.etx_matter.specs.Fonts.{IsSound, info_at, has_width};
 use etx_lists::Listed;
 use std::marker::Model;
 
-/// At which size a font is asked for.
-#[derive(Clone, Copy, Debug, PartialEq, Eq)]
-pub enum Size {
-    /// The size for which it was designed.
-    Design,
-    /// So many sp, from 1 to 134217727.
-    At(i32),
-    /// So many thousandths of the design size, from 1 to 32768.
-    Scaled(i32),
-}
-
 /// What a character's word says besides its dimensions ("TeX: The Program", section 544).
 #[derive(Clone, Copy, Debug, PartialEq, Eq)]
 pub enum CharTag {

@@ -2,8 +2,8 @@
 -- sections 541 and 568.
 use Rattle.std.specs.Prelude.{ℕ, ◌*◌, ◌/◌, ◌^◌, Bool, ◌||◌, nat_lt, nat_le, if◌then◌else◌, ℤ, pos, ◌≤ℤ◌, unsigned_abs, List, drop, Option, None, Some}
 use Rattle.byteorder.specs.Endian.{big_number}
-use Rattle.etx_matter.specs.declared.font.Size.{Size}
-use Rattle.etx_matter.specs.declared.font.Size.TheVariants.{Design, At, Scaled}
+use Rattle.etx_matter.specs.declared.sizes.Size.{Size}
+use Rattle.etx_matter.specs.declared.sizes.Size.TheVariants.{Design, At, Scaled}
 use Rattle.etx_matter.specs.declared.font.FontHeader.{FontHeader}
 use Rattle.etx_tfm.specs.declared.lengths.Lengths.{Lengths}
 
