@@ -43,6 +43,15 @@ pub enum PairAction {
     },
 }
 
+/// A neighbour, as a program of ligatures and kerns sees it.
+#[derive(Clone, Copy, Debug, PartialEq, Eq)]
+pub enum LigItem {
+    /// What stands before the first character of a word, or behind the last.
+    Boundary,
+    /// The character of this code.
+    Glyph(u8),
+}
+
 /// A step of the programs of ligatures and kerns ("TeX: The Program", section 545).
 #[derive(Clone, Copy, Debug, PartialEq, Eq)]
 pub enum LigStep {

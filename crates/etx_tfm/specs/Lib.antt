@@ -1,5 +1,6 @@
 pub mod Headers
 pub mod Lengths
+pub mod Machine
 pub mod Numbers
 pub mod Reading
 pub mod Tables
