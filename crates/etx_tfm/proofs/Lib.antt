@@ -1,2 +1,4 @@
+pub mod Passing
+pub mod Programs
 pub mod Rounds
 pub mod Sizes

@@ -172,14 +172,16 @@ pub fn ligkern(alloc: Global, font: &Font, chars: &[u8], left: bool, right: bool
     let mut rest = edged(alloc, chars, left, right)?;
     let mut out = Nodes::new(alloc);
     for _ in 0..u64::MAX {
-        let Some(current) = rest.pop_front() else {
-            return Ok(out);
-        };
-        let Some(next) = rest.pop_front() else {
-            write(font, current, &mut out)?;
-            return Ok(out);
-        };
-        step(alloc, font, current, next, &mut out, &mut rest)?;
+        match rest.pop_front() {
+            None => return Ok(out),
+            Some(current) => match rest.pop_front() {
+                None => {
+                    write(font, current, &mut out)?;
+                    return Ok(out);
+                }
+                Some(next) => step(alloc, font, current, next, &mut out, &mut rest)?,
+            },
+        }
     }
     Err(AllocError)
 }
