@@ -1,6 +1,6 @@
 -- The tables of a font, and what may be wrong with them, by the definition of TFM ("TeX: The Program", sections 543 to
 -- 546, and 569 to 574, where TeX refuses them).
-use Rattle.std.specs.Prelude.{ℕ, zero, suc, ◌≡◌, ◌≤◌, ◌+◌, ◌-◌, Bool, true, false, ◌&&◌, ◌||◌, ◌==◌, nat_lt, nat_le, if◌then◌else◌, List, [], ◌∷◌, length, slice_get, Option, None, Some, is_none}
+use Rattle.std.specs.Prelude.{ℕ, zero, suc, ◌+◌, ◌-◌, Bool, true, false, ◌&&◌, ◌||◌, ◌==◌, nat_lt, nat_le, if◌then◌else◌, List, [], ◌∷◌, length, slice_get, Option, None, Some, is_none}
 use Rattle.std.specs.List.{list_any}
 use Rattle.std.specs.Option.{option_map_or, option_and_then}
 use Rattle.etx_matter.specs.declared.font.CharTag.{CharTag}
@@ -105,10 +105,6 @@ unfoldable pub has_bad_among : FontInfo → List LigStep → Bool
 has_bad_among font [] = false
 has_bad_among font (step ∷ steps) = has_bad_step font (length steps) step || has_bad_among font steps
 
--- damage of the kind LigKern
-unfoldable pub has_bad_steps : FontInfo → Bool
-has_bad_steps font = has_bad_among font font.steps
-
 -- a part is named that doesn't exist
 abbrev pub has_bad_part : FontInfo → Option ℕ → Bool
 has_bad_part font None = false
@@ -121,10 +117,3 @@ has_bad_recipe font r =
 -- damage of the kind Exten
 unfoldable pub has_bad_recipes : FontInfo → Bool
 has_bad_recipes font = list_any (has_bad_recipe font) font.recipes
-
--- codes are at most 255, and every place and code in a font's tables leads to something
-pub record IsSound (font : FontInfo) : Type 0 where
-  pub codes : font.first + length font.characters ≤ 256
-  pub characters : has_bad_characters font ≡ false
-  pub steps : has_bad_steps font ≡ false
-  pub recipes : has_bad_recipes font ≡ false

@@ -5,4 +5,5 @@ pub mod Jobs
 pub mod Ligatures
 pub mod Nests
 pub mod Sizes
+pub mod Soundness
 pub mod formers

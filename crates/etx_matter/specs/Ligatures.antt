@@ -1,5 +1,5 @@
 -- What the programs of a font say of two neighbours: "TeX: The Program", sections 545 and 1039.
-use Rattle.std.specs.Prelude.{ℕ, zero, suc, ◌+◌, Bool, true, false, ◌&&◌, ◌==◌, nat_lt, if◌then◌else◌, List, [], ◌∷◌, drop, slice_get, Option, None, Some}
+use Rattle.std.specs.Prelude.{ℕ, zero, suc, ◌+◌, Bool, true, false, ◌&&◌, ◌||◌, ◌==◌, nat_lt, if◌then◌else◌, List, [], ◌∷◌, drop, slice_get, Option, None, Some, is_none}
 use Rattle.std.specs.Option.{option_and_then}
 use Rattle.etx_matter.specs.declared.font.CharTag.{CharTag}
 use Rattle.etx_matter.specs.declared.font.CharTag.TheVariants.{Plain, Program, Successor, Extensible}
@@ -54,3 +54,41 @@ found_in font right zero (Pair next action skip ∷ steps) =
 unfoldable pub action_between : FontInfo → LigItem → LigItem → Option PairAction
 action_between font left right =
     option_and_then (λ place. found_in font right 0 (drop place font.steps)) (program_of font left)
+
+-- Two neighbours are rewritten alone until nothing stands behind the cursor. What stands at the cursor then is what they
+-- come to. For a ligature between `x` and `y`, one case for each of what it keeps and of where the cursor goes; `find`
+-- says what further neighbours come to.
+abbrev pub by_ligature : (LigItem → LigItem → Option LigItem) → LigItem → LigItem → ℕ → Bool → Bool → ℕ → Option LigItem
+by_ligature find x y code false false passes = Some (Glyph code)
+by_ligature find x y code true false zero = find x (Glyph code)
+by_ligature find x y code true false (suc passes) = Some (Glyph code)
+by_ligature find x y code false true zero = find (Glyph code) y
+by_ligature find x y code false true (suc passes) = Some y
+by_ligature find x y code true true zero = option_and_then (λ end. find end y) (find x (Glyph code))
+by_ligature find x y code true true (suc zero) = find (Glyph code) y
+by_ligature find x y code true true (suc (suc passes)) = Some y
+
+-- without a ligature the cursor comes to `y`
+abbrev pub by_pair : (LigItem → LigItem → Option LigItem) → LigItem → LigItem → Option PairAction → Option LigItem
+by_pair find x y None = Some y
+by_pair find x y (Some (Kern place)) = Some y
+by_pair find x y (Some (Ligature code keeps_current keeps_next passes)) = by_ligature find x y code keeps_current keeps_next passes
+
+-- what two neighbours come to, if that is found with at most so many pairs one within the other
+unfoldable pub last : FontInfo → ℕ → LigItem → LigItem → Option LigItem
+last font zero x y = None
+last font (suc depth) x y = by_pair (last font depth) x y (action_between font x y)
+
+-- some number below n passes
+unfoldable pub any_below : (ℕ → Bool) → ℕ → Bool
+any_below test zero = false
+any_below test (suc n) = test n || any_below test n
+
+-- the boundary or some character passes
+abbrev pub some_item : (LigItem → Bool) → Bool
+some_item test = test Boundary || any_below (λ code. test (Glyph code)) 256
+
+-- Ligatures come round where what some pair comes to can't be found without that of the same pair. There are 257 times 257
+-- pairs, so where more of them stand one within the other, one of them comes again.
+unfoldable pub comes_round : FontInfo → Bool
+comes_round font = some_item (λ x. some_item (λ y. is_none (last font 66_049 x y)))

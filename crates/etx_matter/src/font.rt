@@ -1,6 +1,7 @@
 //! A font: its tables as they stand in a TFM file, with dimensions in sp at the font's size.
 ghost use Rattle.std.specs.Prelude.{◌≡◌, None, Some};
-ghost use Rattle.etx_matter.specs.Fonts.{IsSound, info_at, has_width};
+ghost use Rattle.etx_matter.specs.Fonts.{info_at, has_width};
+ghost use Rattle.etx_matter.specs.Soundness.{IsSound};
 
 use etx_lists::Listed;
 use std::marker::Model;
@@ -125,7 +126,8 @@ pub struct Font {
 }
 
 impl Model for Font {
-    ghost use Rattle.etx_matter.specs.Fonts.{FontState, IsSound};
+    ghost use Rattle.etx_matter.specs.Fonts.{FontState};
+    ghost use Rattle.etx_matter.specs.Soundness.{IsSound};
 
     ghost Value = { FontState };
 

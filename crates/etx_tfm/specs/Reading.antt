@@ -5,7 +5,8 @@ use Rattle.etx_matter.specs.declared.sizes.Size.{Size}
 use Rattle.etx_matter.specs.declared.font.Dimensions.{Dimensions}
 use Rattle.etx_matter.specs.declared.font.FontHeader.{FontHeader}
 use Rattle.etx_matter.specs.declared.font.FontInfo.{FontInfo}
-use Rattle.etx_matter.specs.Fonts.{opposite, FontState, has_bad_characters, has_bad_steps, has_bad_recipes}
+use Rattle.etx_matter.specs.Fonts.{opposite, FontState, has_bad_characters, has_bad_recipes}
+use Rattle.etx_matter.specs.Soundness.{has_bad_steps}
 use Rattle.etx_tfm.specs.declared.lengths.Lengths.{Lengths}
 use Rattle.etx_tfm.specs.declared.word.Word.{Word}
 use Rattle.etx_tfm.specs.declared.fault.Damage.{Damage}

@@ -1,7 +1,7 @@
 //! Whether the places and codes in a font's tables lead to something.
 ghost use Rattle.std.specs.Prelude.{◌≡◌, ◌+◌, ◌-◌, ◌≤◌, ◌<◌, ◌||◌, length};
 ghost use Rattle.std.specs.List.{list_any};
-ghost use Rattle.etx_matter.specs.Fonts.{comes_to, has_round_list, has_bad_tag, has_bad_dimension, has_bad_place, has_bad_characters, is_boundary, has_bad_action, has_bad_skip, has_bad_step, has_bad_among, has_bad_steps, has_bad_part, has_bad_recipe, has_bad_recipes, successor, tag_next, listed_next};
+ghost use Rattle.etx_matter.specs.Fonts.{comes_to, has_round_list, has_bad_tag, has_bad_dimension, has_bad_place, has_bad_characters, is_boundary, has_bad_action, has_bad_skip, has_bad_step, has_bad_among, has_bad_part, has_bad_recipe, has_bad_recipes, successor, tag_next, listed_next};
 
 use etx_matter::{CharInfo, CharTag, Dimensions, FontInfo, LigStep, PairAction, Recipe};
 
@@ -150,7 +150,7 @@ fn has_bad_step(font: &FontInfo, behind: usize, step: LigStep) -> bool
 }
 
 #[tactic(auto, unfolding(etx_matter::specs::Fonts::has_bad_among))]
-fn has_bad_among(font: &FontInfo, steps: &[LigStep]) -> bool
+pub fn has_bad_among(font: &FontInfo, steps: &[LigStep]) -> bool
     ensures { result ≡ has_bad_among font.now steps.now }
 {
     for (place, step) in steps.iter().enumerate() {
@@ -160,14 +160,6 @@ fn has_bad_among(font: &FontInfo, steps: &[LigStep]) -> bool
         }
     }
     false
-}
-
-/// Damage of the kind [`LigKern`](crate::Damage::LigKern).
-#[tactic(auto, unfolding(etx_matter::specs::Fonts::has_bad_steps))]
-pub fn has_bad_steps(font: &FontInfo) -> bool
-    ensures { result ≡ has_bad_steps font.now }
-{
-    has_bad_among(font, font.steps.as_slice())
 }
 
 fn has_bad_part(font: &FontInfo, part: Option<u8>) -> bool

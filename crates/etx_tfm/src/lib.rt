@@ -14,6 +14,7 @@ mod numbers;
 mod piece;
 mod program;
 mod read;
+mod settle;
 mod tables;
 #[cfg(test)]
 mod tests;

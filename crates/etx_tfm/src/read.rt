@@ -1,16 +1,17 @@
 //! A TFM file becomes a font.
 ghost use Rattle.std.specs.Prelude.{◌≡◌, ◌+◌, ◌*◌, ◌≤◌, ◌<◌, Ok, IfOk, IfErr, IfNone, length, false, map};
 ghost use Rattle.std.specs.List.{list_any};
-ghost use Rattle.etx_matter.specs.Fonts.{IsSound};
+ghost use Rattle.etx_matter.specs.Soundness.{IsSound};
 ghost use Rattle.etx_tfm.specs.Headers.{IsSize};
 ghost use Rattle.etx_tfm.specs.Lengths.{is_short, character_count};
 ghost use Rattle.etx_tfm.specs.Tables.{words_in, first_code};
 ghost use Rattle.etx_tfm.specs.Reading.{is_too_large, has_large, begins_elsewhere, some_large, some_elsewhere, has_bad_dimensions, has_bad_parameters, damage_in, checked, font_of, IsFontOf, IsFaultOf};
 
-use crate::checks::{has_bad_characters, has_bad_recipes, has_bad_steps};
+use crate::checks::{has_bad_characters, has_bad_recipes};
 use crate::fault::{Damage, FontFault};
 use crate::header::read_header;
 use crate::lengths::{Lengths, read_lengths};
+use crate::settle::has_bad_steps;
 use crate::tables::{read_tables, section, words_in};
 use crate::word::Word;
 use etx_matter::{Dimensions, Font, FontHeader, FontInfo, Size};

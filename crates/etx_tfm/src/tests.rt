@@ -156,3 +156,17 @@ fn the_right_edge_has_a_character(rt: HostRuntime) -> Result<(), Fail> {
     assert!(rt; is_letter(&open, 0, b'f', 327_680));
     Ok(())
 }
+
+#[test]
+fn ligatures_that_come_round_are_damage(rt: HostRuntime) -> Result<(), Fail> {
+    let alloc = rt.alloc();
+    // before an `i`, `f` becomes `f`, and the cursor stays; or the ligature is put between them, and it stays
+    assert!(rt; gives(alloc, &[(390, 1), (391, 102)], Damage::LigKern)?);
+    assert!(rt; gives(alloc, &[(390, 3), (391, 105)], Damage::LigKern)?);
+    // it comes round no more where the cursor passes on
+    let font = font_with(alloc, &[(390, 5), (391, 102)])?;
+    let nodes = ligkern(alloc, &font, b"fi", false, false)?;
+    assert!(rt; nodes.len() == 2);
+    assert!(rt; is_letter(&nodes, 1, b'i', 163_840));
+    Ok(())
+}
