@@ -1,0 +1,16 @@
+-- A font in whose tables every place and code leads to something, and whose ligatures don't come round.
+use Rattle.std.specs.Prelude.{ℕ, ◌≡◌, ◌≤◌, ◌+◌, Bool, false, ◌||◌, length}
+use Rattle.etx_matter.specs.declared.font.FontInfo.{FontInfo}
+use Rattle.etx_matter.specs.Fonts.{has_bad_characters, has_bad_among, has_bad_recipes}
+use Rattle.etx_matter.specs.Ligatures.{comes_round}
+
+-- damage of the kind LigKern
+unfoldable pub has_bad_steps : FontInfo → Bool
+has_bad_steps font = has_bad_among font font.steps || comes_round font
+
+-- codes are at most 255, and there is no damage of the kinds Char, LigKern and Exten
+pub record IsSound (font : FontInfo) : Type 0 where
+  pub codes : font.first + length font.characters ≤ 256
+  pub characters : has_bad_characters font ≡ false
+  pub steps : has_bad_steps font ≡ false
+  pub recipes : has_bad_recipes font ≡ false

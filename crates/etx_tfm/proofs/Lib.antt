@@ -1,0 +1,5 @@
+pub mod Passing
+pub mod Programs
+pub mod Rounds
+pub mod Settling
+pub mod Sizes

@@ -1,0 +1,6 @@
+use Rattle.std.proofs.Common.{◌≡◌, take, map}
+use Rattle.etx_tfm.specs.Words.{recipe_of}
+use Rattle.etx_tfm.proofs.tables.read_recipes.Given as goal
+
+abbrev pub invariant-loop-word : goal.invariant-loop-word
+invariant-loop-word l = l.out ≡ map recipe_of (take l.word-index l.words)

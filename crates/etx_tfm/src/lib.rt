@@ -1,0 +1,25 @@
+//! Fonts: a TFM file becomes a [`Font`](etx_matter::Font), or the first kind of damage that it has, and a font makes
+//! ligatures and kerns of a run of characters.
+//!
+//! The format is that of the definition of TFM ("TeX: The Program", sections 540 to 547), and what is refused is what TeX
+//! refuses when it reads a font (sections 560 to 576).
+#![tactic(auto)]
+
+mod checks;
+mod fault;
+mod header;
+mod lengths;
+mod machine;
+mod numbers;
+mod piece;
+mod program;
+mod read;
+mod settle;
+mod tables;
+#[cfg(test)]
+mod tests;
+mod word;
+
+pub use fault::{Damage, FontFault};
+pub use machine::ligkern;
+pub use read::read_font;

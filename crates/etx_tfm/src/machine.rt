@@ -1,0 +1,187 @@
+//! Ligatures and kerns of a run of characters.
+ghost use Rattle.std.specs.Prelude.{◌≡◌, ◌+◌, ◌++◌, ◌∷◌, [], List, OnOk, IfOk, ◌≤◌};
+ghost use Rattle.etx_matter.specs.declared.node.Node.{Node};
+ghost use Rattle.etx_tfm.specs.Machine.{size_by, size_of, number_at, nodes_of, kern_of, place, passed, kept, passes_of, item_if, made_of, stepped, Rewrites, ComesTo, edged};
+
+use crate::piece::{Piece, made_of};
+use crate::program::action_between;
+use etx_lists::Listed;
+use etx_matter::{CharInfo, CharSize, Dimensions, Font, FontInfo, KernKind, Node, Nodes, PairAction};
+use std::alloc::{AllocError, Global};
+use std::collections::VecDeque;
+
+fn number_at(numbers: &Listed<i32>, place: usize) -> i32
+    ensures { result ≡ number_at numbers.now place }
+{
+    numbers.at(place).copied().unwrap_or(0)
+}
+
+fn size_by(dimensions: &Dimensions, info: CharInfo) -> CharSize
+    ensures { result ≡ size_by dimensions.now info }
+{
+    CharSize {
+        width: number_at(&dimensions.widths, usize::from(info.width)),
+        height: number_at(&dimensions.heights, usize::from(info.height)),
+        depth: number_at(&dimensions.depths, usize::from(info.depth)),
+        italic: number_at(&dimensions.italics, usize::from(info.italic)),
+    }
+}
+
+fn size_of(font: &FontInfo, code: u8) -> CharSize
+    ensures { result ≡ size_of font.now code }
+{
+    match font.character(code) {
+        Some(info) => size_by(&font.dimensions, info),
+        None => CharSize {
+            width: 0,
+            height: 0,
+            depth: 0,
+            italic: 0,
+        },
+    }
+}
+
+/// Writes the item that the cursor passes.
+fn write(font: &Font, piece: Piece, out: &mut Nodes) -> Result<(), AllocError>
+    ensures { OnOk result (out.new ≡ out.old ++ nodes_of font.now piece) }
+{
+    match piece {
+        Piece::LeftEdge | Piece::RightEdge => Ok(()),
+        Piece::Letter(code) => out.push(Node::Char {
+            font: font.number(),
+            code,
+            size: size_of(font.info(), code),
+        }),
+        Piece::Made {
+            code,
+            letters,
+            left,
+            right,
+        } => out.push(Node::Lig {
+            font: font.number(),
+            code,
+            size: size_of(font.info(), code),
+            letters,
+            left,
+            right,
+        }),
+    }
+}
+
+fn write_kern(font: &Font, place: u16, out: &mut Nodes) -> Result<(), AllocError>
+    ensures { OnOk result (out.new ≡ out.old ++ kern_of font.now place ∷ []) }
+{
+    out.push(Node::Kern {
+        width: number_at(&font.info().kerns, usize::from(place)),
+        kind: KernKind::Font,
+    })
+}
+
+/// Moves the cursor over so many items, or over all that there are.
+#[tactic(auto, unfolding(crate::specs::Machine::passed))]
+fn pass(font: &Font, count: u8, out: &mut Nodes, rest: &mut VecDeque<Piece>) -> Result<(), AllocError>
+    ensures { OnOk result (place out.new rest.new.items ≡ passed font.now count out.old rest.old.items) }
+{
+    for _ in 0..count {
+        match rest.pop_front() {
+            Some(piece) => write(font, piece, out)?,
+            None => return Ok(()),
+        }
+    }
+    Ok(())
+}
+
+fn kept(stays: bool) -> u8
+    ensures value { result ≡ kept stays }
+    ensures small { result ≤ 1 }
+{
+    if stays { 1 } else { 0 }
+}
+
+fn passes_of(passes: u8, keeps_current: bool, keeps_next: bool) -> u8
+    ensures { result ≡ passes_of passes keeps_current keeps_next }
+{
+    passes.min(kept(keeps_current) + kept(keeps_next))
+}
+
+/// Puts an item that stays back, in front of the others.
+fn put_if(stays: bool, piece: Piece, rest: &mut VecDeque<Piece>) -> Result<(), AllocError>
+    ensures { OnOk result (rest.new.items ≡ item_if stays piece ++ rest.old.items) }
+{
+    if stays {
+        rest.push_front(piece)?;
+    }
+    Ok(())
+}
+
+/// Does what is to be done between the item at the cursor and the next one.
+#[tactic(auto, unfolding(crate::specs::Machine::stepped))]
+fn step(alloc: Global, font: &Font, current: Piece, next: Piece, out: &mut Nodes, rest: &mut VecDeque<Piece>) -> Result<(), AllocError>
+    ensures { OnOk result (place out.new rest.new.items ≡ stepped font.now out.old current next rest.old.items) }
+{
+    match action_between(font.info(), current.item(), next.item()) {
+        None => {
+            rest.push_front(next)?;
+            write(font, current, out)
+        }
+        Some(PairAction::Kern(kern)) => {
+            rest.push_front(next)?;
+            write(font, current, out)?;
+            write_kern(font, kern, out)
+        }
+        Some(PairAction::Ligature {
+            code,
+            keeps_current,
+            keeps_next,
+            passes,
+        }) => {
+            let made = made_of(alloc, &current, &next, code, keeps_current, keeps_next)?;
+            put_if(keeps_next, next, rest)?;
+            rest.push_front(made)?;
+            put_if(keeps_current, current, rest)?;
+            pass(font, passes_of(passes, keeps_current, keeps_next), out, rest)
+        }
+    }
+}
+
+/// The items of a word, with the edges that are asked for.
+fn edged(alloc: Global, chars: &[u8], left: bool, right: bool) -> Result<VecDeque<Piece>, AllocError>
+    ensures { IfOk result (λ it. it.items ≡ edged chars.now left right) }
+{
+    let mut rest = VecDeque::new(alloc);
+    if left {
+        rest.push_back(Piece::LeftEdge)?;
+    }
+    for code in chars {
+        rest.push_back(Piece::Letter(*code))?;
+    }
+    if right {
+        rest.push_back(Piece::RightEdge)?;
+    }
+    Ok(rest)
+}
+
+/// The nodes that a run of characters becomes: characters, ligatures and kerns, by the programs of the font. With `left`
+/// the run begins at the beginning of a word, with `right` it ends at the end of one.
+///
+/// A character that doesn't exist in the font stays as it is, with no program and no size. `Err` comes only where memory
+/// is wanting, or after 2^64 - 1 steps.
+pub fn ligkern(alloc: Global, font: &Font, chars: &[u8], left: bool, right: bool) -> Result<Nodes, AllocError>
+    ensures { IfOk result (λ nodes. Rewrites font.now [] (edged chars.now left right) nodes) }
+{
+    let mut rest = edged(alloc, chars, left, right)?;
+    let mut out = Nodes::new(alloc);
+    for _ in 0..u64::MAX {
+        match rest.pop_front() {
+            None => return Ok(out),
+            Some(current) => match rest.pop_front() {
+                None => {
+                    write(font, current, &mut out)?;
+                    return Ok(out);
+                }
+                Some(next) => step(alloc, font, current, next, &mut out, &mut rest)?,
+            },
+        }
+    }
+    Err(AllocError)
+}

@@ -1,0 +1,103 @@
+//! The items of the list that ligatures rewrite.
+ghost use Rattle.std.specs.Prelude.{◌≡◌, ◌++◌, OnOk, IfOk};
+ghost use Rattle.etx_matter.specs.Ligatures.{action_between};
+ghost use Rattle.etx_tfm.specs.Machine.{item_of, letters_of, has_left_edge, has_right_edge, letters_unless, edge_unless, made_of};
+
+use etx_lists::Bytes;
+use etx_matter::LigItem;
+use std::alloc::{AllocError, Global};
+
+/// An item of a word while its ligatures are made.
+#[derive(Debug, Drop)]
+pub enum Piece {
+    /// What stands before the first character.
+    LeftEdge,
+    /// What stands behind the last character.
+    RightEdge,
+    /// A character of the word.
+    Letter(u8),
+    /// A ligature: its code, the letters for which it stands, and whether the edges are part of it.
+    Made {
+        code: u8,
+        letters: Bytes,
+        left: bool,
+        right: bool,
+    },
+}
+
+impl Piece {
+    /// How programs see it.
+    pub fn item(&self) -> LigItem
+        ensures { result ≡ item_of self.now }
+    {
+        match self {
+            Piece::LeftEdge | Piece::RightEdge => LigItem::Boundary,
+            Piece::Letter(code) => LigItem::Glyph(*code),
+            Piece::Made { code, .. } => LigItem::Glyph(*code),
+        }
+    }
+
+    fn has_left_edge(&self) -> bool
+        ensures { result ≡ has_left_edge self.now }
+    {
+        match self {
+            Piece::LeftEdge => true,
+            Piece::RightEdge | Piece::Letter(_) => false,
+            Piece::Made { left, .. } => *left,
+        }
+    }
+
+    fn has_right_edge(&self) -> bool
+        ensures { result ≡ has_right_edge self.now }
+    {
+        match self {
+            Piece::RightEdge => true,
+            Piece::LeftEdge | Piece::Letter(_) => false,
+            Piece::Made { right, .. } => *right,
+        }
+    }
+
+    /// Adds the letters for which it stands.
+    fn add_letters(&self, letters: &mut Bytes) -> Result<(), AllocError>
+        ensures { OnOk result (letters.new ≡ letters.old ++ letters_of self.now) }
+    {
+        match self {
+            Piece::LeftEdge | Piece::RightEdge => Ok(()),
+            Piece::Letter(code) => letters.push(*code),
+            Piece::Made { letters: more, .. } => letters.extend_from_slice(more.as_slice()),
+        }
+    }
+
+    /// Adds its letters, unless it stays.
+    fn add_letters_unless(&self, stays: bool, letters: &mut Bytes) -> Result<(), AllocError>
+        ensures { OnOk result (letters.new ≡ letters.old ++ letters_unless stays self.now) }
+    {
+        if stays {
+            return Ok(());
+        }
+        self.add_letters(letters)
+    }
+}
+
+fn edge_unless(stays: bool, edge: bool) -> bool
+    ensures { result ≡ edge_unless stays edge }
+{
+    if stays { false } else { edge }
+}
+
+/// The ligature `code` between two items, each of which stays or not.
+pub fn made_of(alloc: Global, current: &Piece, next: &Piece, code: u8, keeps_current: bool, keeps_next: bool) -> Result<Piece, AllocError>
+    ensures { IfOk result (λ it. it ≡ made_of current.now next.now code keeps_current keeps_next) }
+{
+    let mut letters = Bytes::new(alloc);
+    current.add_letters_unless(keeps_current, &mut letters)?;
+    next.add_letters_unless(keeps_next, &mut letters)?;
+    let left = edge_unless(keeps_current, current.has_left_edge()) || edge_unless(keeps_next, next.has_left_edge());
+    let right = edge_unless(keeps_current, current.has_right_edge()) || edge_unless(keeps_next, next.has_right_edge());
+    Ok(Piece::Made {
+        code,
+        letters,
+        left,
+        right,
+    })
+}
