@@ -429,7 +429,7 @@ fn parameters_are_numbered_in_order(rt: HostRuntime) -> Result<(), Fail> {
         b"#",
         b"a#1#",
         b"#x",
-        b"#{a",
+        b"#}",
         b"#0",
     ] {
         assert_eq!(rt; fault_of(alloc, wrong)?, Some(PatternFault::BadNumber));

@@ -1,0 +1,10 @@
+-- Where more tokens are wanted, what was fed is the beginning of a call.
+use Rattle.std.proofs.Common.{◌++◌, ◌∷◌, [], List}
+use Rattle.etx_macros.specs.declared.fault.Fed.TheVariants.{More}
+use Rattle.etx_macros.proofs.Completions.{means}
+use Rattle.etx_macros.proofs.matcher.Matcher.feed.Goals as goal
+
+pub returns-in-Ok-More-clause-means : goal.returns-in-Ok-More-clause-means
+returns-in-Ok-More-clause-means c = λ call h.
+    let after = rw c.in-Ok-More.field-0-is at c.in-Ok-More.ensures.means in
+    means More c.go.new.self (call ++ c.args.token ∷ []) (after call h)
