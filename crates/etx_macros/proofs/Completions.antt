@@ -241,11 +241,11 @@ begins m call h = elim h.1 [
 ]
 
 pub means : (fed : Fed) (m : Matcher) (call : List Token) → Comes fed m call → Means fed m call
-means More m call h = (h, begins m call h)
-means Done m call h = h
-means (Fault f) m call h = h
-means OutOfMemory m call h = tt
+means More m call h = (begins m call h, h)
+means Done m call h = ((m.args, h.1), h)
+means (Fault f) m call h = (h, tt)
+means OutOfMemory m call h = (tt, tt)
 
 pub starts : (m : Matcher) → IsAfter m [] ⊎ IsWhole m [] → Means More m [] ⊎ Means Done m []
-starts m (inl h) = inl (h, begins m [] h)
-starts m (inr h) = inr h
+starts m (inl h) = inl (means More m [] h)
+starts m (inr h) = inr (means Done m [] h)

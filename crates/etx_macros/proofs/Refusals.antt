@@ -8,7 +8,8 @@ use Rattle.etx_matter.specs.declared.token.Token.TheVariants.{Char, Name, Param}
 use Rattle.etx_macros.specs.Marks.{has_category, is_space, is_par, behind_all, depth_of, IsBalanced, IsDelimiter}
 use Rattle.etx_macros.specs.Calls.{IsGroup, EndsInside, ParsAreAllowed, AreSpaces, IsItem, IsUndelimited, IsDelimited, IsArgument, MatchesCall, text_before, with_argument, NoCall, IsPastText}
 use Rattle.etx_macros.specs.Within.{InGroup, InDelimited}
-use Rattle.etx_macros.specs.Progress.{InText, InArgument, IsLast, Why}
+use Rattle.etx_macros.specs.Progress.{InText, InArgument}
+use Rattle.etx_macros.specs.Says.{IsLast, Why}
 use Rattle.etx_macros.specs.declared.fault.MatchFault.{MatchFault}
 use Rattle.etx_macros.proofs.Turns.{Faulty}
 use Rattle.etx_macros.proofs.Depths.{behind_append, depth_push}
@@ -20,7 +21,7 @@ use Rattle.etx_macros.proofs.Steps.{call_apart, not_next, bare_within, delimited
 abbrev pub NoArgument : Bool → List Token → List Token → Type 0
 NoArgument long d tokens = (text arg rest behind : List Token) → IsArgument long d text arg → tokens ++ rest ≡ text ++ behind → ⊥
 
-par_not_right : (t : Token) → is_par t ≡ true → has_category t 2 ≡ true → ⊥
+pub par_not_right : (t : Token) → is_par t ≡ true → has_category t 2 ≡ true → ⊥
 par_not_right (Char code cat) p r = false≢true p
 par_not_right (Name name) p r = false≢true r
 par_not_right (Param k) p r = false≢true r

@@ -1,13 +1,11 @@
 -- How far the match of a call has come.
 use Rattle.std.specs.Prelude.{ℕ, ◌+◌, ◌<◌, Bool, true, false, List, [], ◌∷◌, ◌++◌, ◌≡◌, ◌⊎◌, length, take, slice_index_or}
 use Rattle.etx_matter.specs.declared.token.Token.{Token}
-use Rattle.etx_macros.specs.declared.fault.MatchFault.{MatchFault}
-use Rattle.etx_macros.specs.declared.fault.MatchFault.TheVariants.{DoesNotMatch, ParagraphEnded, ExtraBrace}
 use Rattle.etx_macros.specs.declared.fault.Fed.{Fed}
 use Rattle.etx_macros.specs.declared.fault.Fed.TheVariants.{More, Done, Fault, OutOfMemory}
 use Rattle.etx_macros.specs.declared.matcher.Matcher.{Matcher}
-use Rattle.etx_macros.specs.Marks.{has_category, is_par}
-use Rattle.etx_macros.specs.Calls.{Gives, MatchesCall, Begins, NoCall, IsPastText}
+use Rattle.etx_macros.specs.Calls.{Gives, MatchesCall, NoCall}
+use Rattle.etx_macros.specs.Says.{Why, Says}
 use Rattle.etx_macros.specs.Matching.{said_at}
 use Rattle.etx_macros.specs.Within.{Within}
 
@@ -48,16 +46,6 @@ IsAfter m call = IsGoing m × (InText m.parts m.args m.part m.read m.depth call 
 abbrev pub IsWhole : Matcher → List Token → Type 0
 IsWhole m call = IsDone m × MatchesCall m.long m.parts call m.args
 
--- the last token is such a one
-abbrev pub IsLast : (Token → Bool) → List Token → Type 0
-IsLast p tokens = (front : List Token) × (t : Token) × (tokens ≡ front ++ t ∷ []) × (p t ≡ true)
-
--- why no call begins with the tokens: it is their last one
-abbrev pub Why : MatchFault → Bool → List (List Token) → List Token → Type 0
-Why DoesNotMatch long parts tokens = IsPastText parts tokens → ⊥
-Why ParagraphEnded long parts tokens = IsPastText parts tokens × (long ≡ false) × IsLast is_par tokens
-Why ExtraBrace long parts tokens = IsPastText parts tokens × IsLast (λ t. has_category t 2) tokens
-
 -- what stands behind a token that was taken
 abbrev pub Comes : Fed → Matcher → List Token → Type 0
 Comes More m call = IsAfter m call
@@ -65,13 +53,16 @@ Comes Done m call = IsWhole m call
 Comes (Fault fault) m call = NoCall m.long m.parts call × Why fault m.long m.parts call
 Comes OutOfMemory m call = Unit {0}
 
--- What a matcher says when these tokens were fed: they are the beginning of a call, or a call, or no call begins with
--- them. No two of these hold of the same tokens.
+-- what a matcher is when these tokens were fed
+abbrev pub Is : Fed → Matcher → List Token → Type 0
+Is More m call = IsAfter m call
+Is Done m call = IsWhole m call
+Is (Fault fault) m call = Unit {0}
+Is OutOfMemory m call = Unit {0}
+
+-- what a matcher says of the tokens that were fed is true, and it is ready for the next one, or has the arguments
 abbrev pub Means : Fed → Matcher → List Token → Type 0
-Means More m call = IsAfter m call × Begins m.long m.parts call
-Means Done m call = IsWhole m call
-Means (Fault fault) m call = NoCall m.long m.parts call × Why fault m.long m.parts call
-Means OutOfMemory m call = Unit {0}
+Means fed m call = Says fed m.long m.parts call × Is fed m call
 
 -- an argument is over, of which the last so many tokens were its delimiter
 pub record EndsArgument (m m' : Matcher) (delimiter : ℕ) (fed : Fed) : Type 0 where
