@@ -1,6 +1,6 @@
 -- An argument, token by token.
 use Rattle.std.proofs.Common.{◌≡◌, ℕ, suc, ◌<◌, ◌-◌, Bool, true, false, List, [], ◌∷◌, ◌++◌, Option, Some, ◌⊎◌, inl, inr, length, refl, sym, ap, subst, ◌∙◌, arith}
-use Rattle.std.proofs.lemmas.List.{append-nil, append_assoc, append_cancel_right, same_from_push}
+use Rattle.std.proofs.lemmas.List.{append_assoc, append_cancel_right, same_from_push}
 use Rattle.etx_matter.specs.declared.token.Token.{Token}
 use Rattle.etx_macros.specs.declared.argument.Turn.TheVariants as turn
 use Rattle.etx_macros.specs.Marks.{is_space, is_par, behind, depth_of, IsBalanced}

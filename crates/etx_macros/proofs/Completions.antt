@@ -1,5 +1,5 @@
 -- Tokens with which what was fed becomes a call.
-use Rattle.std.proofs.Common.{◌≡◌, ℕ, zero, suc, ◌<◌, ◌≤◌, ◌+◌, ◌-◌, Bool, true, false, List, [], ◌∷◌, ◌++◌, Option, Some, None, ◌⊎◌, inl, inr, length, get_or, take, drop, refl, sym, ap, subst, ◌∙◌, arith}
+use Rattle.std.proofs.Common.{◌≡◌, ℕ, zero, suc, ◌<◌, ◌+◌, ◌-◌, Bool, true, false, List, [], ◌∷◌, ◌++◌, Some, None, ◌⊎◌, inl, inr, length, get_or, take, drop, refl, sym, ap, subst, ◌∙◌, arith}
 use Rattle.std.specs.Prelude.{All}
 use Rattle.std.proofs.lemmas.List.{append-nil, append_assoc, append_cancel_left, length-append, length-drop, length-take-le, take-append-drop, take_at}
 use Rattle.std.proofs.lemmas.Bool.{false≢true, cases_lt}
@@ -9,9 +9,8 @@ use Rattle.etx_matter.specs.declared.token.Token.TheVariants.{Char}
 use Rattle.etx_macros.specs.declared.matcher.Matcher.{Matcher}
 use Rattle.etx_macros.specs.declared.fault.Fed.{Fed}
 use Rattle.etx_macros.specs.declared.fault.Fed.TheVariants.{More, Done, Fault, OutOfMemory}
-use Rattle.etx_macros.specs.Marks.{has_category, is_par, behind, depth_of, IsBalanced, IsDelimiter}
-use Rattle.etx_macros.specs.Calls.{IsGroup, inner_of, Gives, ParsAreAllowed, AreSpaces, IsUndelimited, IsDelimited, IsArgument, MatchesCall, with_argument, Begins}
-use Rattle.etx_macros.specs.Matching.{IsLongest}
+use Rattle.etx_macros.specs.Marks.{has_category, is_par, depth_of, IsBalanced, IsDelimiter}
+use Rattle.etx_macros.specs.Calls.{IsGroup, inner_of, Gives, ParsAreAllowed, AreSpaces, IsDelimited, IsArgument, MatchesCall, with_argument, Begins}
 use Rattle.etx_macros.specs.Within.{InGroup, InDelimited, Within}
 use Rattle.etx_macros.specs.Progress.{InText, InArgument, IsAfter, IsWhole, Comes, Means}
 use Rattle.etx_macros.proofs.Depths.{depth_push, group_needs_two, group_opens, group_closes, group_inside, group_from}

@@ -1,5 +1,5 @@
 -- What the braces and the beginnings of a delimiter say of a text.
-use Rattle.std.proofs.Common.{◌≡◌, ℕ, zero, suc, ◌<◌, ◌≤◌, ◌+◌, ◌-◌, min, Bool, true, false, cond, eqb, List, [], ◌∷◌, ◌++◌, Option, Some, None, ◌⊎◌, inl, inr, length, get_or, take, drop, refl, sym, ap, subst, ◌∙◌, arith}
+use Rattle.std.proofs.Common.{◌≡◌, ℕ, suc, ◌<◌, ◌+◌, ◌-◌, min, Bool, true, false, cond, eqb, List, [], ◌∷◌, ◌++◌, Option, Some, None, ◌⊎◌, inl, inr, length, get_or, take, drop, refl, sym, ap, subst, ◌∙◌, arith}
 use Rattle.std.specs.Prelude.{All}
 use Rattle.std.proofs.lemmas.Bool.{false≢true, eqb-true, cases_lt}
 use Rattle.std.proofs.lemmas.List.{append-nil, append_assoc, same_from_push, length-append, length-take-le, take-append-drop, take_more, take_all, take_at, drop_more, get_or_at, get_or-take}
@@ -84,8 +84,7 @@ pub plain_before : (d x y : List Token) (t : Token) → IsDelimiter d → d ≡ 
 plain_before d x y t h e = λ k u l.
     let n : length d ≡ length x + suc (length y) = ap length e ∙ length-append x (t ∷ y) in
     let g : get_or d k u ≡ get_or x k u = ap (λ xs. get_or xs k u) e ∙ get_or-append x (t ∷ y) u k l in
-    let m : k < length (take (length d - 1) d) = omega (arith, length-take-le (length d - 1) d (omega arith), n, l) in
-    (
+    let m : k < length (take (length d - 1) d) = omega (arith, length-take-le (length d - 1) d (omega arith), n, l) in (
       ap (λ v. has_category v 1) (sym g ∙ sym (get_or-take (length d - 1) d k u (omega (arith, n, l)))) ∙ h.1 k u m,
       ap (λ v. has_category v 2) (sym g) ∙ h.0 k u (omega (arith, n, l)),
     )

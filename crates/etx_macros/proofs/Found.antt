@@ -1,10 +1,10 @@
 -- What the search for the delimiter says behind a token of an argument.
-use Rattle.std.proofs.Common.{◌≡◌, ℕ, zero, suc, ◌<◌, ◌≤◌, ◌+◌, ◌-◌, min, Bool, true, false, List, [], ◌∷◌, ◌++◌, Option, Some, inl, inr, length, take, refl, sym, ap, subst, ◌∙◌, arith}
+use Rattle.std.proofs.Common.{◌≡◌, ℕ, zero, suc, ◌<◌, ◌+◌, min, Bool, true, false, List, [], ◌∷◌, ◌++◌, Option, Some, inl, inr, length, refl, sym, ap, subst, ◌∙◌, arith}
 use Rattle.std.specs.Prelude.{nat_lt}
 use Rattle.std.proofs.lemmas.Bool.{cases_lt, ltb-true, ltb-false}
 use Rattle.std.proofs.lemmas.List.{take_all}
 use Rattle.etx_matter.specs.declared.token.Token.{Token}
-use Rattle.etx_macros.specs.Marks.{behind, depth_of, IsDelimiter, EndsWith}
+use Rattle.etx_macros.specs.Marks.{behind, depth_of, IsDelimiter}
 use Rattle.etx_macros.specs.Calls.{EndsInside}
 use Rattle.etx_macros.specs.Matching.{IsLongest}
 use Rattle.etx_macros.specs.Within.{InDelimited}

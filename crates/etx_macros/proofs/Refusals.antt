@@ -1,5 +1,5 @@
 -- Where no call begins with the tokens that were fed.
-use Rattle.std.proofs.Common.{◌≡◌, ℕ, suc, ◌<◌, ◌≤◌, ◌+◌, Bool, true, false, ◌&&◌, eqb, List, [], ◌∷◌, ◌++◌, Option, Some, None, ◌⊎◌, inl, inr, length, get_or, take, drop, refl, sym, ap, subst, ◌∙◌, arith}
+use Rattle.std.proofs.Common.{◌≡◌, ℕ, ◌<◌, ◌+◌, Bool, true, false, ◌&&◌, eqb, List, [], ◌∷◌, ◌++◌, Some, None, ◌⊎◌, inl, inr, length, get_or, take, drop, refl, sym, ap, subst, ◌∙◌, arith}
 use Rattle.std.specs.Prelude.{slice_get}
 use Rattle.std.proofs.lemmas.Bool.{false≢true, eqb-true, cases_lt}
 use Rattle.std.proofs.lemmas.List.{append-nil, append_assoc, append_cancel_left, same_from_push, length-append, length-take-le, take_at, take-append-drop, drop_more, get_or-take}
@@ -256,8 +256,7 @@ module _ (parts : List (List Token)) (long : Bool) (args : List (List Token)) (p
 
   pub past_text : InArgument parts long args part read depth matched call → IsPastText parts (call ++ t ∷ [])
   past_text h =
-      let f = front_text long (take part parts) h.before args h.matched in
-      (
+      let f = front_text long (take part parts) h.before args h.matched in (
         f.0 ++ (h.skipped ++ (read ++ t ∷ [])),
         call_apart parts long args part read depth matched call t h ∙ ap (λ xs. xs ++ (h.skipped ++ (read ++ t ∷ []))) f.1
             ∙ append_assoc (get_or (take part parts) 0 []) f.0 (h.skipped ++ (read ++ t ∷ []))

@@ -56,7 +56,7 @@ after_part m call f p l c r d k =
               whole = sym (append-nil call) ∙ ap (λ xs. call ++ xs) (sym r);
               within = subst (λ (xs : List Token). Within m.long (get_or m.parts m.part []) [] xs m.depth m.matched) (sym r)
                   (subst (λ (n : ℕ). Within m.long (get_or m.parts m.part []) [] [] n m.matched) (sym d)
-                      (subst (λ (n : ℕ). Within m.long (get_or m.parts m.part []) [] [] 0 n) (sym k) (within_start m.long (get_or m.parts m.part []))));
+                  (subst (λ (n : ℕ). Within m.long (get_or m.parts m.part []) [] [] 0 n) (sym k) (within_start m.long (get_or m.parts m.part []))));
             }),
           )
     ] refl

@@ -1,5 +1,5 @@
 -- The match of a call, token by token.
-use Rattle.std.specs.Prelude.{ℕ, zero, suc, Bool, not, ◌&&◌, List, take, ◌<◌, ◌≤◌, Option, Some, None, Result, Ok, Err, ◌≡◌, ◌==◌, if◌then◌else◌}
+use Rattle.std.specs.Prelude.{ℕ, zero, suc, Bool, not, ◌&&◌, List, take, ◌<◌, ◌≤◌, Option, Some, None, Result, Ok, Err, ◌==◌, if◌then◌else◌}
 use Rattle.etx_matter.specs.declared.token.Token.{Token}
 use Rattle.etx_macros.specs.declared.argument.Turn.{Turn}
 use Rattle.etx_macros.specs.declared.argument.Turn.TheVariants as turn

@@ -1,5 +1,5 @@
 -- What is said of the tokens is true.
-use Rattle.std.proofs.Common.{◌++◌, ◌∷◌, [], List}
+use Rattle.std.proofs.Common.{◌++◌, ◌∷◌, []}
 use Rattle.etx_macros.specs.declared.fault.Fed.TheVariants.{More, Done}
 use Rattle.etx_macros.proofs.Completions.{means}
 use Rattle.etx_macros.proofs.matcher.Matcher.feed.Goals as goal

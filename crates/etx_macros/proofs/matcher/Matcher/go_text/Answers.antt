@@ -1,6 +1,5 @@
 -- What a token makes of the text before the first parameter.
 use Rattle.std.proofs.Common.{◌+◌, ◌<◌, ◌≡◌, ◌≤◌, ◌++◌, ◌∷◌, [], List, Some, length, inl, sym, ap, subst, ◌∙◌, arith, refl}
-use Rattle.std.proofs.lemmas.List.{length_push}
 use Rattle.std.specs.Prelude.{slice_index_or, slice_get}
 use Rattle.etx_matter.specs.declared.token.Token.{Token}
 use Rattle.etx_macros.specs.Matching.{said_at}
