@@ -24,7 +24,8 @@ Gives text arg = IsGroup text arg ⊎ (((inner : List Token) → IsGroup text in
 abbrev pub EndsInside : List Token → List Token → Type 0
 EndsInside text delimiter = (k : ℕ) × (k < length delimiter) × EndsWith text (take (k + 1) delimiter)
 
--- Unless the macro is long, each `\par` of the text stands outside braces where it may belong to the delimiter.
+-- Unless the macro is long, each `\par` of the text stands outside braces where it begins the delimiter or goes on with
+-- it: there it is let through, also where the delimiter then breaks off.
 abbrev pub ParsAreAllowed : Bool → List Token → List Token → Type 0
 ParsAreAllowed long delimiter text = long ≡ false → (front rest : List Token) (t : Token) → text ≡ front ++ t ∷ rest → is_par t ≡ true → (depth_of front ≡ Some 0) × EndsInside (front ++ t ∷ []) delimiter
 

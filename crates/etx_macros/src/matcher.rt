@@ -67,7 +67,7 @@ impl Matcher {
         self.depth.min(self.read.len())
     }
 
-    /// The text of the part that is being matched.
+    /// The text of the part that is being matched: a delimiter, or the text before the first parameter.
     fn delimiter(&self) -> &[Token]
         requires { IsGoing self.now }
         ensures same { result.now ≡ slice_index_or self.now.parts self.now.part [] }
@@ -237,7 +237,12 @@ impl Matcher {
         !self.failed && self.part == self.parts.len()
     }
 
-    /// Takes the next token of the call.
+    /// Takes the next token of the call, and says what the tokens that were fed so far are: `More` where they are the
+    /// beginning of a call and not all of it, `Done` where they are a call, and a fault where no call begins with them;
+    /// so it comes at the first such token. Each is said exactly there, want of memory aside. Needs a matcher that has
+    /// said nothing but `More` (see [`Matcher::is_going`]); it has failed after a fault or want of memory.
+    ///
+    /// Outside braces a token costs two tests for the delimiter at most, on average, and inside them none.
     pub fn feed(&mut self, token: Token) -> Fed
         requires { IsGoing self.old }
         ensures means { (call : List Token) → IsAfter self.old call → Means result self.new (call ++ token ∷ []) }
@@ -258,7 +263,7 @@ impl Matcher {
         }
     }
 
-    /// The arguments, in order. Takes no memory.
+    /// The arguments of a call that is complete, in order. Takes no memory.
     pub fn args(&self) -> &[Tokens]
         requires { IsDone self.now }
         ensures { result.now ≡ self.now.args }
