@@ -1,29 +1,15 @@
 -- An argument, token by token.
 use Rattle.std.proofs.Common.{◌≡◌, ℕ, suc, ◌<◌, ◌-◌, Bool, true, false, List, [], ◌∷◌, ◌++◌, Option, Some, ◌⊎◌, inl, inr, length, refl, sym, ap, subst, ◌∙◌, arith}
-use Rattle.std.proofs.lemmas.List.{append-nil, append_assoc, append_cancel_right, same_from_push}
+use Rattle.std.proofs.lemmas.List.{append_assoc, append_cancel_right, same_from_push}
 use Rattle.etx_matter.specs.declared.token.Token.{Token}
 use Rattle.etx_macros.specs.declared.argument.Turn.TheVariants as turn
 use Rattle.etx_macros.specs.Marks.{is_space, is_par, behind, depth_of, IsBalanced}
 use Rattle.etx_macros.specs.Calls.{IsGroup, Gives, EndsInside, ParsAreAllowed, AreSpaces, IsPlain, IsUndelimited, IsDelimited}
-use Rattle.etx_macros.specs.Matching.{IsFound, undelimited_turn}
+use Rattle.etx_macros.specs.Matching.{IsLongest, undelimited_turn}
 use Rattle.etx_macros.specs.Within.{InGroup, InDelimited, Within}
+use Rattle.etx_macros.proofs.Delimiters.{split_push, IsFound, longest_start}
 use Rattle.etx_macros.proofs.Depths.{depth_push}
 use Rattle.etx_macros.proofs.Turns.{IsLast, found_turn, keep_turn, skip_turn, stays_flat, closes_group, opens_group, inside_group}
-
--- a list is empty, or has a last one
-last_one : (xs : List Token) → (xs ≡ []) ⊎ ((init : List Token) × (t : Token) × (xs ≡ init ++ t ∷ []))
-last_one [] = inl refl
-last_one (x ∷ xs) = elim (last_one xs) [ inl e ↦ inr ([], x, ap (λ ys. x ∷ ys) e) | inr w ↦ inr (x ∷ w.0, w.1, ap (λ ys. x ∷ ys) w.2) ]
-
--- a text that one more token makes is split behind its end, or before it
-pub split_push : (read : List Token) (t : Token) (front rest : List Token) → read ++ t ∷ [] ≡ front ++ rest → ((rest ≡ []) × (read ++ t ∷ [] ≡ front)) ⊎ ((more : List Token) × (read ≡ front ++ more) × (rest ≡ more ++ t ∷ []))
-split_push read t front rest e = elim (last_one rest) [
-  | inl z ↦ inl (z, e ∙ ap (λ r. front ++ r) z ∙ append-nil front)
-  | inr w ↦
-      let f : read ++ t ∷ [] ≡ (front ++ w.0) ++ w.1 ∷ [] = e ∙ ap (λ r. front ++ r) w.2 ∙ sym (append_assoc front w.0 (w.1 ∷ [])) in
-      let g = same_from_push read (front ++ w.0) t w.1 f in
-      inr (w.0, g.0, w.2 ∙ ap (λ u. w.0 ++ u ∷ []) (sym g.1))
-]
 
 nil_apart : (front rest : List Token) (u : Token) → [] ≡ front ++ u ∷ rest → ⊥
 nil_apart [] rest u e = cc
@@ -42,7 +28,7 @@ pars_push long d read t old here = λ l front rest u e p.
       | inr w ↦ old l front w.0 u (w.1 ∙ append_assoc front (u ∷ []) w.0) p
     ]
 
-pars_front : (long : Bool) (d text raw more : List Token) → ParsAreAllowed long d text → text ≡ raw ++ more → ParsAreAllowed long d raw
+pub pars_front : (long : Bool) (d text raw more : List Token) → ParsAreAllowed long d text → text ≡ raw ++ more → ParsAreAllowed long d raw
 pars_front long d text raw more old e = λ l front rest u f p. old l front (rest ++ more) u (e ∙ ap (λ xs. xs ++ more) f ∙ append_assoc front (u ∷ rest) more) p
 
 no_par_here : (long par : Bool) (P : Type 0) → (long ≡ false → par ≡ false) → long ≡ false → par ≡ true → P
@@ -129,8 +115,8 @@ bare_found long skipped read depth t arg s (inr g) e gives =
     }
 
 -- delimited arguments
-pub delimited_found : (long : Bool) (d read : List Token) (depth : ℕ) (t : Token) (raw arg : List Token) → (d ≡ [] → ⊥) → InDelimited long d read depth → read ++ t ∷ [] ≡ raw ++ d → IsBalanced raw → Gives raw arg → IsDelimited long d (read ++ t ∷ []) arg
-delimited_found long d read depth t raw arg some g e b gives =
+pub delimited_found : (long : Bool) (d read : List Token) (depth matched : ℕ) (t : Token) (raw arg : List Token) → (d ≡ [] → ⊥) → InDelimited long d read depth matched → read ++ t ∷ [] ≡ raw ++ d → IsBalanced raw → Gives raw arg → IsDelimited long d (read ++ t ∷ []) arg
+delimited_found long d read depth matched t raw arg some g e b gives =
     record {
       raw = raw;
       whole = e;
@@ -146,11 +132,13 @@ delimited_found long d read depth t raw arg some g e b gives =
       gives = gives;
     }
 
-pub delimited_more : (long : Bool) (d read : List Token) (depth : ℕ) (t : Token) (m : ℕ) → InDelimited long d read depth → (IsFound d (read ++ t ∷ []) → ⊥) → (long ≡ false → is_par t ≡ true → (depth ≡ 0) × EndsInside (read ++ t ∷ []) d) → behind t depth ≡ Some m → InDelimited long d (read ++ t ∷ []) m
-delimited_more long d read depth t m g never inside h =
+pub delimited_more : (long : Bool) (d read : List Token) (depth matched : ℕ) (t : Token) (m next : ℕ) → InDelimited long d read depth matched → (IsFound d (read ++ t ∷ []) → ⊥) → (long ≡ false → is_par t ≡ true → (depth ≡ 0) × EndsInside (read ++ t ∷ []) d) → behind t depth ≡ Some m → (m ≡ 0 → IsLongest (read ++ t ∷ []) d (length d) next) → next < length d → InDelimited long d (read ++ t ∷ []) m next
+delimited_more long d read depth matched t m next g never inside h place wants =
     record {
       depth_is = depth_push read t depth (Some m) g.depth_is h;
       not_yet = λ other rest e b. elim (split_push read t (other ++ d) rest e) [ inl w ↦ never (other, w.1, b) | inr w ↦ g.not_yet other w.0 w.1 b ];
+      place = place;
+      wants = wants;
       pars = pars_push long d read t g.pars (λ l p. let i = inside l p in (g.depth_is ∙ ap (λ k. let o : Option ℕ = Some k in o) i.0, i.1));
     }
 
@@ -159,6 +147,6 @@ nil_not_delimited [] rest t ts e = cc
 nil_not_delimited (x ∷ other) rest t ts e = cc
 
 -- nothing of an argument was read
-pub within_start : (long : Bool) (d : List Token) → Within long d [] [] 0
+pub within_start : (long : Bool) (d : List Token) → Within long d [] [] 0 0
 within_start long [] = (tt, inl (refl, refl))
-within_start long (t ∷ ts) = (refl, record { depth_is = refl; not_yet = λ other rest e b. nil_not_delimited other rest t ts e; pars = pars_nil long (t ∷ ts) })
+within_start long (t ∷ ts) = (refl, record { depth_is = refl; not_yet = λ other rest e b. nil_not_delimited other rest t ts e; place = λ z. longest_start (t ∷ ts); wants = omega arith; pars = pars_nil long (t ∷ ts) })

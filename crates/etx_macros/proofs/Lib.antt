@@ -1,5 +1,10 @@
+pub mod Answers
 pub mod Arguments
+pub mod Completions
+pub mod Delimiters
 pub mod Depths
+pub mod Found
+pub mod Refusals
 pub mod Steps
 pub mod Texts
 pub mod Turns

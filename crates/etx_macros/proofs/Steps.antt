@@ -12,29 +12,34 @@ use Rattle.etx_macros.specs.declared.fault.Fed.TheVariants.{More, Done}
 use Rattle.etx_macros.specs.declared.matcher.Matcher.{Matcher}
 use Rattle.etx_macros.specs.Marks.{is_par, behind, IsBalanced}
 use Rattle.etx_macros.specs.Calls.{Gives, EndsInside, IsDelimited, IsArgument, MatchesCall, text_before, with_argument}
-use Rattle.etx_macros.specs.Matching.{said_at, IsFound, undelimited_turn}
+use Rattle.etx_macros.specs.Matching.{said_at, IsLongest, undelimited_turn}
 use Rattle.etx_macros.specs.Within.{InDelimited, Within}
-use Rattle.etx_macros.specs.Progress.{InText, InArgument, IsAfter, IsWhole, Means, IsCause, IsAbsorbed, IsUnfound, EndsArgument, IsStart}
-use Rattle.etx_macros.specs.declared.fault.MatchFault.{MatchFault}
-use Rattle.etx_macros.proofs.Turns.{Faulty}
+use Rattle.etx_macros.specs.Progress.{InText, InArgument, IsAfter, IsWhole, Comes, EndsArgument, IsStart}
+use Rattle.etx_macros.proofs.Delimiters.{IsFound}
 use Rattle.etx_macros.proofs.Arguments.{spaces_push, bare_skip, bare_keep, bare_found, delimited_found, delimited_more, within_start}
 
 part_more : (parts : List (List Token)) (part : ℕ) → part < length parts → take (part + 1) parts ≡ take part parts ++ get_or parts part [] ∷ []
 part_more parts part l = take_more parts part [] l
 
+-- a call and a token of an argument, taken apart
+pub call_apart : (parts : List (List Token)) (long : Bool) (args : List (List Token)) (part : ℕ) (read : List Token) (depth matched : ℕ) (call : List Token) (t : Token) (h : InArgument parts long args part read depth matched call) → call ++ t ∷ [] ≡ h.before ++ (h.skipped ++ (read ++ t ∷ []))
+call_apart parts long args part read depth matched call t h =
+    ap (λ xs. xs ++ t ∷ []) h.whole ∙ append_assoc h.before (h.skipped ++ read) (t ∷ []) ∙ ap (λ xs. h.before ++ xs) (append_assoc h.skipped read (t ∷ []))
+
 -- where an argument is over, the call so far is matched up to it
-matched_more : (parts : List (List Token)) (long : Bool) (args : List (List Token)) (part : ℕ) (read : List Token) (depth : ℕ) (call : List Token) (t : Token) (arg : List Token) (h : InArgument parts long args part read depth call) → part < length parts → IsArgument long (get_or parts part []) (h.skipped ++ (read ++ t ∷ [])) arg → MatchesCall long (take (part + 1) parts) (call ++ t ∷ []) (args ++ arg ∷ [])
-matched_more parts long args part read depth call t arg h l a =
-    let w : call ++ t ∷ [] ≡ h.before ++ (h.skipped ++ (read ++ t ∷ [])) =
-    ap (λ xs. xs ++ t ∷ []) h.whole ∙ append_assoc h.before (h.skipped ++ read) (t ∷ []) ∙ ap (λ xs. h.before ++ xs) (append_assoc h.skipped read (t ∷ [])) in
-    let m = with_argument (take part parts) args h.before (get_or parts part []) (h.skipped ++ (read ++ t ∷ [])) arg h.matched a in
-    subst (λ (c : List Token). MatchesCall long (take (part + 1) parts) c (args ++ arg ∷ [])) (sym w)
-    (subst (λ (ps : List (List Token)). MatchesCall long ps (h.before ++ (h.skipped ++ (read ++ t ∷ []))) (args ++ arg ∷ [])) (sym (part_more parts part l)) m)
+pub matched_more : (parts : List (List Token)) (long : Bool) (args : List (List Token)) (part : ℕ) (before text arg : List Token) → MatchesCall long (take part parts) before args → part < length parts → IsArgument long (get_or parts part []) text arg → MatchesCall long (take (part + 1) parts) (before ++ text) (args ++ arg ∷ [])
+matched_more parts long args part before text arg m l a =
+    subst (λ (ps : List (List Token)). MatchesCall long ps (before ++ text) (args ++ arg ∷ [])) (sym (part_more parts part l)) (with_argument (take part parts) args before (get_or parts part []) text arg m a)
+
+argument_over : (parts : List (List Token)) (long : Bool) (args : List (List Token)) (part : ℕ) (read : List Token) (depth matched : ℕ) (call : List Token) (t : Token) (arg : List Token) (h : InArgument parts long args part read depth matched call) → part < length parts → IsArgument long (get_or parts part []) (h.skipped ++ (read ++ t ∷ [])) arg → MatchesCall long (take (part + 1) parts) (call ++ t ∷ []) (args ++ arg ∷ [])
+argument_over parts long args part read depth matched call t arg h l a =
+    subst (λ (c : List Token). MatchesCall long (take (part + 1) parts) c (args ++ arg ∷ [])) (sym (call_apart parts long args part read depth matched call t h))
+    (matched_more parts long args part h.before (h.skipped ++ (read ++ t ∷ [])) arg h.matched l a)
 
 -- where a part is over, the call is complete, or an argument begins
-pub after_part : (m : Matcher) (call : List Token) → m.failed ≡ false → 0 < m.part → m.part ≤ length m.parts → MatchesCall m.long (take m.part m.parts) call m.args → m.read ≡ [] → m.depth ≡ 0 → Means (said_at m.part (length m.parts)) m call
-after_part m call f p l c r d =
-    elim (eqb m.part (length m.parts)) as (λ b. eqb m.part (length m.parts) ≡ b → Means (cond b Done More) m call) [
+pub after_part : (m : Matcher) (call : List Token) → m.failed ≡ false → 0 < m.part → m.part ≤ length m.parts → MatchesCall m.long (take m.part m.parts) call m.args → m.read ≡ [] → m.depth ≡ 0 → m.matched ≡ 0 → Comes (said_at m.part (length m.parts)) m call
+after_part m call f p l c r d k =
+    elim (eqb m.part (length m.parts)) as (λ b. eqb m.part (length m.parts) ≡ b → Comes (cond b Done More) m call) [
       | true ↦ λ e.
           let n : m.part ≡ length m.parts = eqb-true m.part (length m.parts) e in (
             record { at_end = n; not_failed = f },
@@ -49,47 +54,48 @@ after_part m call f p l c r d =
               matched = c;
               skipped = [];
               whole = sym (append-nil call) ∙ ap (λ xs. call ++ xs) (sym r);
-              within = subst (λ (xs : List Token). Within m.long (get_or m.parts m.part []) [] xs m.depth) (sym r)
-                  (subst (λ (n : ℕ). Within m.long (get_or m.parts m.part []) [] [] n) (sym d) (within_start m.long (get_or m.parts m.part [])));
+              within = subst (λ (xs : List Token). Within m.long (get_or m.parts m.part []) [] xs m.depth m.matched) (sym r)
+                  (subst (λ (n : ℕ). Within m.long (get_or m.parts m.part []) [] [] n m.matched) (sym d)
+                  (subst (λ (n : ℕ). Within m.long (get_or m.parts m.part []) [] [] 0 n) (sym k) (within_start m.long (get_or m.parts m.part []))));
             }),
           )
     ] refl
 
 -- what the two kinds of arguments say of what was read
-bare_within : (long : Bool) (d skipped read : List Token) (depth : ℕ) → d ≡ [] → Within long d skipped read depth → Within long [] skipped read depth
-bare_within long d skipped read depth e w = subst (λ (xs : List Token). Within long xs skipped read depth) e w
+pub bare_within : (long : Bool) (d skipped read : List Token) (depth matched : ℕ) → d ≡ [] → Within long d skipped read depth matched → Within long [] skipped read depth matched
+bare_within long d skipped read depth matched e w = subst (λ (xs : List Token). Within long xs skipped read depth matched) e w
 
-within_bare : (long : Bool) (d skipped read : List Token) (depth : ℕ) → d ≡ [] → Within long [] skipped read depth → Within long d skipped read depth
-within_bare long d skipped read depth e w = subst (λ (xs : List Token). Within long xs skipped read depth) (sym e) w
+pub within_bare : (long : Bool) (d skipped read : List Token) (depth matched : ℕ) → d ≡ [] → Within long [] skipped read depth matched → Within long d skipped read depth matched
+within_bare long d skipped read depth matched e w = subst (λ (xs : List Token). Within long xs skipped read depth matched) (sym e) w
 
-delimited_within : (long : Bool) (d skipped read : List Token) (depth : ℕ) → (d ≡ [] → ⊥) → Within long d skipped read depth → (skipped ≡ []) × InDelimited long d read depth
-delimited_within long [] skipped read depth never w = absurd (never refl)
-delimited_within long (x ∷ xs) skipped read depth never w = w
+pub delimited_within : (long : Bool) (d skipped read : List Token) (depth matched : ℕ) → (d ≡ [] → ⊥) → Within long d skipped read depth matched → (skipped ≡ []) × InDelimited long d read depth matched
+delimited_within long [] skipped read depth matched never w = absurd (never refl)
+delimited_within long (x ∷ xs) skipped read depth matched never w = w
 
-within_delimited : (long : Bool) (d skipped read : List Token) (depth : ℕ) → (d ≡ [] → ⊥) → (skipped ≡ []) × InDelimited long d read depth → Within long d skipped read depth
-within_delimited long [] skipped read depth never w = absurd (never refl)
-within_delimited long (x ∷ xs) skipped read depth never w = w
+pub within_delimited : (long : Bool) (d skipped read : List Token) (depth matched : ℕ) → (d ≡ [] → ⊥) → (skipped ≡ []) × InDelimited long d read depth matched → Within long d skipped read depth matched
+within_delimited long [] skipped read depth matched never w = absurd (never refl)
+within_delimited long (x ∷ xs) skipped read depth matched never w = w
 
-argument_delimited : (long : Bool) (d text arg : List Token) → (d ≡ [] → ⊥) → IsDelimited long d text arg → IsArgument long d text arg
+pub argument_delimited : (long : Bool) (d text arg : List Token) → (d ≡ [] → ⊥) → IsDelimited long d text arg → IsArgument long d text arg
 argument_delimited long [] text arg never a = absurd (never refl)
 argument_delimited long (x ∷ xs) text arg never a = a
 
 -- one token more was read
-kept : (parts : List (List Token)) (long : Bool) (args : List (List Token)) (part : ℕ) (read : List Token) (depth : ℕ) (call : List Token) (t : Token) (m : ℕ) (h : InArgument parts long args part read depth call) → Within long (get_or parts part []) h.skipped (read ++ t ∷ []) m → InArgument parts long args part (read ++ t ∷ []) m (call ++ t ∷ [])
-kept parts long args part read depth call t m h w =
+kept : (parts : List (List Token)) (long : Bool) (args : List (List Token)) (part : ℕ) (read : List Token) (depth matched : ℕ) (call : List Token) (t : Token) (m next : ℕ) (h : InArgument parts long args part read depth matched call) → Within long (get_or parts part []) h.skipped (read ++ t ∷ []) m next → InArgument parts long args part (read ++ t ∷ []) m next (call ++ t ∷ [])
+kept parts long args part read depth matched call t m next h w =
     record {
       past_text = h.past_text;
       before = h.before;
       matched = h.matched;
       skipped = h.skipped;
-      whole = ap (λ xs. xs ++ t ∷ []) h.whole ∙ append_assoc h.before (h.skipped ++ read) (t ∷ []) ∙ ap (λ xs. h.before ++ xs) (append_assoc h.skipped read (t ∷ []));
+      whole = call_apart parts long args part read depth matched call t h;
       within = w;
     }
 
-module _ (parts : List (List Token)) (long : Bool) (args : List (List Token)) (part : ℕ) (read : List Token) (depth : ℕ) (call : List Token) (t : Token) where
-  pub undelimited_skip : get_or parts part [] ≡ [] → InArgument parts long args part read depth call → undelimited_turn depth long t ≡ turn.Skip → InArgument parts long args part read depth (call ++ t ∷ [])
+module _ (parts : List (List Token)) (long : Bool) (args : List (List Token)) (part : ℕ) (read : List Token) (depth matched : ℕ) (call : List Token) (t : Token) where
+  pub undelimited_skip : get_or parts part [] ≡ [] → InArgument parts long args part read depth matched call → undelimited_turn depth long t ≡ turn.Skip → InArgument parts long args part read depth matched (call ++ t ∷ [])
   undelimited_skip e h u =
-      let w = bare_within long (get_or parts part []) h.skipped read depth e h.within in
+      let w = bare_within long (get_or parts part []) h.skipped read depth matched e h.within in
       let s = bare_skip long read depth t w.1 u in
       record {
         past_text = h.past_text;
@@ -98,30 +104,34 @@ module _ (parts : List (List Token)) (long : Bool) (args : List (List Token)) (p
         skipped = h.skipped ++ t ∷ [];
         whole = ap (λ xs. xs ++ t ∷ []) (h.whole ∙ ap (λ xs. h.before ++ (h.skipped ++ xs)) s.0 ∙ ap (λ xs. h.before ++ xs) (append-nil h.skipped))
             ∙ append_assoc h.before h.skipped (t ∷ []) ∙ ap (λ xs. h.before ++ xs) (sym (append-nil (h.skipped ++ t ∷ [])) ∙ ap (λ xs. (h.skipped ++ t ∷ []) ++ xs) (sym s.0));
-        within = within_bare long (get_or parts part []) (h.skipped ++ t ∷ []) read depth e (spaces_push h.skipped t w.0 s.1, w.1);
+        within = within_bare long (get_or parts part []) (h.skipped ++ t ∷ []) read depth matched e (spaces_push h.skipped t w.0 s.1, w.1);
       }
 
-  pub undelimited_keep : (m : ℕ) → get_or parts part [] ≡ [] → InArgument parts long args part read depth call → undelimited_turn depth long t ≡ turn.Keep m → InArgument parts long args part (read ++ t ∷ []) m (call ++ t ∷ [])
+  pub undelimited_keep : (m : ℕ) → get_or parts part [] ≡ [] → InArgument parts long args part read depth matched call → undelimited_turn depth long t ≡ turn.Keep m → InArgument parts long args part (read ++ t ∷ []) m matched (call ++ t ∷ [])
   undelimited_keep m e h u =
-      let w = bare_within long (get_or parts part []) h.skipped read depth e h.within in
-      kept parts long args part read depth call t m h (within_bare long (get_or parts part []) h.skipped (read ++ t ∷ []) m e (w.0, inr (bare_keep long read depth t m w.1 u)))
+      let w = bare_within long (get_or parts part []) h.skipped read depth matched e h.within in
+      kept parts long args part read depth matched call t m matched h (within_bare long (get_or parts part []) h.skipped (read ++ t ∷ []) m matched e (w.0, inr (bare_keep long read depth t m w.1 u)))
 
-  pub undelimited_end : (arg : List Token) → part < length parts → get_or parts part [] ≡ [] → InArgument parts long args part read depth call → undelimited_turn depth long t ≡ turn.Found → Gives (read ++ t ∷ []) arg → MatchesCall long (take (part + 1) parts) (call ++ t ∷ []) (args ++ arg ∷ [])
+  pub undelimited_end : (arg : List Token) → part < length parts → get_or parts part [] ≡ [] → InArgument parts long args part read depth matched call → undelimited_turn depth long t ≡ turn.Found → Gives (read ++ t ∷ []) arg → MatchesCall long (take (part + 1) parts) (call ++ t ∷ []) (args ++ arg ∷ [])
   undelimited_end arg l e h u gives =
-      let w = bare_within long (get_or parts part []) h.skipped read depth e h.within in
-      matched_more parts long args part read depth call t arg h l
+      let w = bare_within long (get_or parts part []) h.skipped read depth matched e h.within in
+      argument_over parts long args part read depth matched call t arg h l
       (subst (λ (d : List Token). IsArgument long d (h.skipped ++ (read ++ t ∷ [])) arg) (sym e) (bare_found long h.skipped read depth t arg w.0 w.1 u gives))
 
-  pub delimited_keep : (m : ℕ) → (get_or parts part [] ≡ [] → ⊥) → InArgument parts long args part read depth call → (IsFound (get_or parts part []) (read ++ t ∷ []) → ⊥) → (long ≡ false → is_par t ≡ true → (depth ≡ 0) × EndsInside (read ++ t ∷ []) (get_or parts part [])) → behind t depth ≡ Some m → InArgument parts long args part (read ++ t ∷ []) m (call ++ t ∷ [])
-  delimited_keep m some h never inside b =
-      let w = delimited_within long (get_or parts part []) h.skipped read depth some h.within in
-      kept parts long args part read depth call t m h (within_delimited long (get_or parts part []) h.skipped (read ++ t ∷ []) m some (w.0, delimited_more long (get_or parts part []) read depth t m w.1 never inside b))
+  -- what is known of a delimited argument
+  pub in_delimited : (get_or parts part [] ≡ [] → ⊥) → InArgument parts long args part read depth matched call → InDelimited long (get_or parts part []) read depth matched
+  in_delimited some h = (delimited_within long (get_or parts part []) h.skipped read depth matched some h.within).1
 
-  pub delimited_end : (raw arg : List Token) → part < length parts → (get_or parts part [] ≡ [] → ⊥) → InArgument parts long args part read depth call → read ++ t ∷ [] ≡ raw ++ get_or parts part [] → IsBalanced raw → Gives raw arg → MatchesCall long (take (part + 1) parts) (call ++ t ∷ []) (args ++ arg ∷ [])
+  pub delimited_keep : (m next : ℕ) → (get_or parts part [] ≡ [] → ⊥) → InArgument parts long args part read depth matched call → (IsFound (get_or parts part []) (read ++ t ∷ []) → ⊥) → (long ≡ false → is_par t ≡ true → (depth ≡ 0) × EndsInside (read ++ t ∷ []) (get_or parts part [])) → behind t depth ≡ Some m → (m ≡ 0 → IsLongest (read ++ t ∷ []) (get_or parts part []) (length (get_or parts part [])) next) → next < length (get_or parts part []) → InArgument parts long args part (read ++ t ∷ []) m next (call ++ t ∷ [])
+  delimited_keep m next some h never inside b place wants =
+      let w = delimited_within long (get_or parts part []) h.skipped read depth matched some h.within in
+      kept parts long args part read depth matched call t m next h (within_delimited long (get_or parts part []) h.skipped (read ++ t ∷ []) m next some (w.0, delimited_more long (get_or parts part []) read depth matched t m next w.1 never inside b place wants))
+
+  pub delimited_end : (raw arg : List Token) → part < length parts → (get_or parts part [] ≡ [] → ⊥) → InArgument parts long args part read depth matched call → read ++ t ∷ [] ≡ raw ++ get_or parts part [] → IsBalanced raw → Gives raw arg → MatchesCall long (take (part + 1) parts) (call ++ t ∷ []) (args ++ arg ∷ [])
   delimited_end raw arg l some h f b gives =
-      let w = delimited_within long (get_or parts part []) h.skipped read depth some h.within in
-      let a = argument_delimited long (get_or parts part []) (read ++ t ∷ []) arg some (delimited_found long (get_or parts part []) read depth t raw arg some w.1 f b gives) in
-      matched_more parts long args part read depth call t arg h l
+      let w = delimited_within long (get_or parts part []) h.skipped read depth matched some h.within in
+      let a = argument_delimited long (get_or parts part []) (read ++ t ∷ []) arg some (delimited_found long (get_or parts part []) read depth matched t raw arg some w.1 f b gives) in
+      argument_over parts long args part read depth matched call t arg h l
       (subst (λ (xs : List Token). IsArgument long (get_or parts part []) (xs ++ (read ++ t ∷ [])) arg) (sym w.0) a)
 
 -- the text before the first parameter is over
@@ -129,24 +139,16 @@ pub text_end : (parts : List (List Token)) (long : Bool) → 0 < length parts �
 text_end [] long l = absurd (omega arith)
 text_end (p ∷ ps) long l = text_before p
 
-pub in_argument : (parts : List (List Token)) (long : Bool) (args : List (List Token)) (part : ℕ) (read : List Token) (depth : ℕ) (call : List Token) → 0 < part → InText parts args part read depth call ⊎ InArgument parts long args part read depth call → InArgument parts long args part read depth call
-in_argument parts long args part read depth call l (inl x) = absurd (omega (arith, x.first))
-in_argument parts long args part read depth call l (inr x) = x
+pub in_argument : (parts : List (List Token)) (long : Bool) (args : List (List Token)) (part : ℕ) (read : List Token) (depth matched : ℕ) (call : List Token) → 0 < part → InText parts args part read depth call ⊎ InArgument parts long args part read depth matched call → InArgument parts long args part read depth matched call
+in_argument parts long args part read depth matched call l (inl x) = absurd (omega (arith, x.first))
+in_argument parts long args part read depth matched call l (inr x) = x
 
-pub in_text : (parts : List (List Token)) (long : Bool) (args : List (List Token)) (part : ℕ) (read : List Token) (depth : ℕ) (call : List Token) → part ≡ 0 → InText parts args part read depth call ⊎ InArgument parts long args part read depth call → InText parts args part read depth call
-in_text parts long args part read depth call l (inl x) = x
-in_text parts long args part read depth call l (inr x) = absurd (omega (arith, x.past_text))
-
-pub cause_of : (m : Matcher) (t : Token) (f : MatchFault) (free : Type 0) → 0 < m.part → IsUnfound m t → (free → IsAbsorbed m t → ⊥) → Faulty f m.depth m.long t free → IsCause f m t
-cause_of m t f free l u a (inl h) = subst (λ (g : MatchFault). IsCause g m t) h.0 (l, u, h.1, h.2, a h.3)
-cause_of m t f free l u a (inr h) = subst (λ (g : MatchFault). IsCause g m t) h.0 (l, u, h.1, h.2)
-
--- an undelimited argument has no delimiter that could absorb a token
-pub not_absorbed : (m : Matcher) (t : Token) → get_or m.parts m.part [] ≡ [] → IsAbsorbed m t → ⊥
-not_absorbed m t e a = let l = a.1.1 in omega (arith, ap length e, l)
+pub in_text : (parts : List (List Token)) (long : Bool) (args : List (List Token)) (part : ℕ) (read : List Token) (depth matched : ℕ) (call : List Token) → part ≡ 0 → InText parts args part read depth call ⊎ InArgument parts long args part read depth matched call → InText parts args part read depth call
+in_text parts long args part read depth matched call l (inl x) = x
+in_text parts long args part read depth matched call l (inr x) = absurd (omega (arith, x.past_text))
 
 -- what holds of the calls that end an argument
-pub end_means : (mid new : Matcher) (k : ℕ) (fed : Fed) (call : List Token) (x : EndsArgument mid new k fed) → mid.part < length mid.parts → mid.failed ≡ false → ((arg : List Token) → Gives x.raw arg → MatchesCall mid.long (take (mid.part + 1) mid.parts) call (mid.args ++ arg ∷ [])) → Means fed new call
+pub end_means : (mid new : Matcher) (k : ℕ) (fed : Fed) (call : List Token) (x : EndsArgument mid new k fed) → mid.part < length mid.parts → mid.failed ≡ false → ((arg : List Token) → Gives x.raw arg → MatchesCall mid.long (take (mid.part + 1) mid.parts) call (mid.args ++ arg ∷ [])) → Comes fed new call
 end_means mid new k fed call x l f c =
     let m0 = c x.arg x.gives in
     let m1 = subst (λ (n : ℕ). MatchesCall mid.long (take n mid.parts) call (mid.args ++ x.arg ∷ [])) (sym x.part_is) m0 in
@@ -154,8 +156,8 @@ end_means mid new k fed call x l f c =
     let m3 = subst (λ (b : Bool). MatchesCall b (take new.part new.parts) call (mid.args ++ x.arg ∷ [])) (sym x.long_is) m2 in
     let m4 = subst (λ (zs : List (List Token)). MatchesCall new.long (take new.part new.parts) call zs) (sym x.args_is) m3 in
     let e : fed ≡ said_at new.part (length new.parts) = x.fed_is ∙ ap (λ n. said_at n (length mid.parts)) (sym x.part_is) ∙ ap (λ ps. said_at new.part (length ps)) (sym x.parts_is) in
-    subst (λ (g : Fed). Means g new call) (sym e)
-    (after_part new call (x.failed_is ∙ f) (omega (arith, x.part_is)) (omega (arith, x.part_is, ap length x.parts_is)) m4 x.read_is x.depth_is)
+    subst (λ (g : Fed). Comes g new call) (sym e)
+    (after_part new call (x.failed_is ∙ f) (omega (arith, x.part_is)) (omega (arith, x.part_is, ap length x.parts_is)) m4 x.read_is x.depth_is x.matched_is)
 
 -- two cuts of a text at the same place
 pub same_cut : (raw cut raw' cut' : List Token) → raw ++ cut ≡ raw' ++ cut' → length cut ≡ length cut' → raw ≡ raw'
@@ -220,8 +222,8 @@ not_next text read t missing rest e =
     missing (slice_get-get_or text (length read) t l ∙ ap (λ x. let o : Option Token = Some x in o) g)
 
 -- a matcher that nothing was fed to
-starts_by : (part count : ℕ) (m : Matcher) (call : List Token) → Means (said_at part count) m call → IsAfter m call ⊎ IsWhole m call
-starts_by part count m call = elim (eqb part count) as (λ b. Means (cond b Done More) m call → IsAfter m call ⊎ IsWhole m call) [ true ↦ λ h. inr h | false ↦ λ h. inl h ]
+starts_by : (part count : ℕ) (m : Matcher) (call : List Token) → Comes (said_at part count) m call → IsAfter m call ⊎ IsWhole m call
+starts_by part count m call = elim (eqb part count) as (λ b. Comes (cond b Done More) m call → IsAfter m call ⊎ IsWhole m call) [ true ↦ λ h. inr h | false ↦ λ h. inl h ]
 
 pub starts_past_text : (m : Matcher) (parts : List (List Token)) (long : Bool) → IsStart m parts long 1 → 0 < length parts → get_or parts 0 [] ≡ [] → IsAfter m [] ⊎ IsWhole m []
 starts_past_text m parts long s l e =
@@ -230,9 +232,9 @@ starts_past_text m parts long s l e =
     let m2 = subst (λ (ps : List (List Token)). MatchesCall long (take m.part ps) [] []) (sym s.parts_is) m1 in
     let m3 = subst (λ (b : Bool). MatchesCall b (take m.part m.parts) [] []) (sym s.long_is) m2 in
     let m4 = subst (λ (zs : List (List Token)). MatchesCall m.long (take m.part m.parts) [] zs) (sym s.args_is) m3 in
-    starts_by m.part (length m.parts) m [] (after_part m [] s.failed_is (omega (arith, s.part_is)) (omega (arith, s.part_is, ap length s.parts_is)) m4 s.read_is s.depth_is)
+    starts_by m.part (length m.parts) m [] (after_part m [] s.failed_is (omega (arith, s.part_is)) (omega (arith, s.part_is, ap length s.parts_is)) m4 s.read_is s.depth_is s.matched_is)
 
-some_length : (xs : List Token) → (xs ≡ [] → ⊥) → 0 < length xs
+pub some_length : (xs : List Token) → (xs ≡ [] → ⊥) → 0 < length xs
 some_length [] some = absurd (some refl)
 some_length (x ∷ xs) some = omega arith
 
@@ -251,5 +253,5 @@ starts_in_text m parts long s l some =
       }),
     )
 
-pub means_by : (f g : Fed) (m : Matcher) (call : List Token) → f ≡ g → Means g m call → Means f m call
-means_by f g m call e h = subst (λ (x : Fed). Means x m call) (sym e) h
+pub means_by : (f g : Fed) (m : Matcher) (call : List Token) → f ≡ g → Comes g m call → Comes f m call
+means_by f g m call e h = subst (λ (x : Fed). Comes x m call) (sym e) h

@@ -15,7 +15,7 @@ gives_same text a b (inr g) (inl h) = absurd (g.0 b h)
 gives_same text a b (inr g) (inr h) = g.1 ∙ sym h.1
 
 -- of two texts that begin alike, the shorter begins the longer
-prefix_rest : (p x q y : List Token) → p ++ x ≡ q ++ y → length p ≤ length q → (rest : List Token) × (q ≡ p ++ rest)
+pub prefix_rest : (p x q y : List Token) → p ++ x ≡ q ++ y → length p ≤ length q → (rest : List Token) × (q ≡ p ++ rest)
 prefix_rest [] x q y e l = (q, refl)
 prefix_rest (a ∷ p) x [] y e l = absurd (omega arith)
 prefix_rest (a ∷ p) x (b ∷ q) y e l =
@@ -45,11 +45,11 @@ delimited_same long d p q a b x y g h e =
     (t, gives_same h.raw a b (subst (λ (xs : List Token). Gives xs a) r g.gives) h.gives)
 
 -- a brace is no space, and a right brace is no left one
-and_none : (b : Bool) → (b && false) ≡ false
+pub and_none : (b : Bool) → (b && false) ≡ false
 and_none true = refl
 and_none false = refl
 
-brace_no_space : (t : Token) → has_category t 1 ≡ true → is_space t ≡ false
+pub brace_no_space : (t : Token) → has_category t 1 ≡ true → is_space t ≡ false
 brace_no_space (Char code cat) e = ap (λ c. eqb code 32 && eqb c 10) (eqb-true cat 1 e) ∙ and_none (eqb code 32)
 brace_no_space (Name name) e = absurd (false≢true e)
 brace_no_space (Param k) e = absurd (false≢true e)
@@ -60,7 +60,7 @@ closes_nothing (Char code cat) e = subst (λ (c : ℕ). behind (Char code c) 0 �
 closes_nothing (Name name) e = absurd (false≢true e)
 closes_nothing (Param k) e = absurd (false≢true e)
 
-none_some : (o : Option ℕ) (n : ℕ) → o ≡ None → o ≡ Some n → ⊥
+pub none_some : (o : Option ℕ) (n : ℕ) → o ≡ None → o ≡ Some n → ⊥
 none_some None n e f = cc
 none_some (Some m) n e f = cc
 
@@ -85,13 +85,13 @@ same_length p q x y e l =
     let z : length r.0 ≡ 0 = omega (arith, ap length r.1, length-append p r.0) in
     sym (r.1 ∙ ap (λ zs. p ++ zs) (nil_from_length r.0 z) ∙ append-nil p)
 
-heads : (s t : Token) (xs ys : List Token) → s ∷ xs ≡ t ∷ ys → s ≡ t
+pub heads : (s t : Token) (xs ys : List Token) → s ∷ xs ≡ t ∷ ys → s ≡ t
 heads s t xs ys e = cc
 
-tails : (s t : Token) (xs ys : List Token) → s ∷ xs ≡ t ∷ ys → xs ≡ ys
+pub tails : (s t : Token) (xs ys : List Token) → s ∷ xs ≡ t ∷ ys → xs ≡ ys
 tails s t xs ys e = cc
 
-group_tail : (p i x : List Token) (l r : Token) → p ≡ (l ∷ i) ++ r ∷ [] → p ++ x ≡ l ∷ (i ++ r ∷ x)
+pub group_tail : (p i x : List Token) (l r : Token) → p ≡ (l ∷ i) ++ r ∷ [] → p ++ x ≡ l ∷ (i ++ r ∷ x)
 group_tail p i x l r e = ap (λ zs. zs ++ x) e ∙ append_assoc (l ∷ i) (r ∷ []) x
 
 groups_same : (p q i j x y : List Token) → IsGroup p i → IsGroup q j → p ++ x ≡ q ++ y → p ≡ q
@@ -120,11 +120,11 @@ pub record Begins (p : List Token) : Type 0 where
   pub whole : p ≡ head ∷ tail
   pub no_space : is_space head ≡ false
 
-item_begins : (p : List Token) → IsItem p → Begins p
+pub item_begins : (p : List Token) → IsItem p → Begins p
 item_begins p (inl g) = record { head = g.0; tail = []; whole = g.2; no_space = g.1.no_space }
 item_begins p (inr g) = record { head = g.1.left; tail = g.0 ++ g.1.right ∷ []; whole = g.1.whole; no_space = brace_no_space g.1.left g.1.opens }
 
-spaces_same : (s r x y : List Token) (t u : Token) → AreSpaces s → AreSpaces r → is_space t ≡ false → is_space u ≡ false → s ++ t ∷ x ≡ r ++ u ∷ y → s ≡ r
+pub spaces_same : (s r x y : List Token) (t u : Token) → AreSpaces s → AreSpaces r → is_space t ≡ false → is_space u ≡ false → s ++ t ∷ x ≡ r ++ u ∷ y → s ≡ r
 spaces_same [] [] x y t u hs hr ht hu e = refl
 spaces_same [] (b ∷ r) x y t u hs hr ht hu e = absurd (false≢true (sym ht ∙ ap is_space (heads t b x (r ++ u ∷ y) e) ∙ hr.0))
 spaces_same (a ∷ s) [] x y t u hs hr ht hu e = absurd (false≢true (sym hu ∙ ap is_space (sym (heads a u (s ++ t ∷ x) y e)) ∙ hs.0))
@@ -172,7 +172,7 @@ inverse long _ _ _ (text_before before) = inl (refl, refl)
 inverse long _ _ _ (with_argument parts args call delimiter text arg m i) =
     inr (record { parts = parts; args = args; call = call; delimiter = delimiter; text = text; arg = arg; matched = m; argument = i; parts_is = refl; call_is = refl; args_is = refl })
 
-some_part : (long : Bool) (ps : List (List Token)) (c : List Token) (zs : List (List Token)) → MatchesCall long ps c zs → 0 < length ps
+pub some_part : (long : Bool) (ps : List (List Token)) (c : List Token) (zs : List (List Token)) → MatchesCall long ps c zs → 0 < length ps
 some_part long _ _ _ (text_before before) = omega arith
 some_part long _ _ _ (with_argument parts args call delimiter text arg m i) = omega (arith, length-append parts (delimiter ∷ []))
 

@@ -1,5 +1,5 @@
 -- Which texts a macro's pattern matches as a call, and with which arguments.
-use Rattle.std.specs.Prelude.{ℕ, ◌+◌, ◌<◌, ◌≤◌, Bool, true, false, List, [], ◌∷◌, ◌++◌, Some, ◌≡◌, ◌⊎◌, length, take, drop, ◌-◌}
+use Rattle.std.specs.Prelude.{ℕ, ◌+◌, ◌<◌, ◌≤◌, Bool, true, false, List, [], ◌∷◌, ◌++◌, Some, ◌≡◌, ◌⊎◌, length, take, drop, ◌-◌, slice_index_or}
 use Rattle.etx_matter.specs.declared.token.Token.{Token}
 use Rattle.etx_macros.specs.Marks.{has_category, is_space, is_par, depth_of, IsBalanced, EndsWith}
 
@@ -24,7 +24,8 @@ Gives text arg = IsGroup text arg ⊎ (((inner : List Token) → IsGroup text in
 abbrev pub EndsInside : List Token → List Token → Type 0
 EndsInside text delimiter = (k : ℕ) × (k < length delimiter) × EndsWith text (take (k + 1) delimiter)
 
--- Unless the macro is long, each `\par` of the text stands outside braces where it may belong to the delimiter.
+-- Unless the macro is long, each `\par` of the text stands outside braces where it begins the delimiter or goes on with
+-- it: there it is let through, also where the delimiter then breaks off.
 abbrev pub ParsAreAllowed : Bool → List Token → List Token → Type 0
 ParsAreAllowed long delimiter text = long ≡ false → (front rest : List Token) (t : Token) → text ≡ front ++ t ∷ rest → is_par t ≡ true → (depth_of front ≡ Some 0) × EndsInside (front ++ t ∷ []) delimiter
 
@@ -69,3 +70,18 @@ IsArgument long (t ∷ ts) text arg = IsDelimited long (t ∷ ts) text arg
 pub data MatchesCall (long : Bool) : List (List Token) → List Token → List (List Token) → Type 0 where
   text_before : (before : List Token) → MatchesCall long (before ∷ []) before []
   with_argument : (parts args : List (List Token)) (call delimiter text arg : List Token) → MatchesCall long parts call args → IsArgument long delimiter text arg → MatchesCall long (parts ++ delimiter ∷ []) (call ++ text) (args ++ arg ∷ [])
+
+-- The tokens are the beginning of a call, and not all of it.
+pub record Begins (long : Bool) (parts : List (List Token)) (tokens : List Token) : Type 0 where
+  pub rest : List Token
+  pub some : 0 < length rest
+  pub args : List (List Token)
+  pub matched : MatchesCall long parts (tokens ++ rest) args
+
+-- no call begins with the tokens
+abbrev pub NoCall : Bool → List (List Token) → List Token → Type 0
+NoCall long parts tokens = (rest : List Token) (args : List (List Token)) → MatchesCall long parts (tokens ++ rest) args → ⊥
+
+-- the text before the first parameter is matched
+abbrev pub IsPastText : List (List Token) → List Token → Type 0
+IsPastText parts tokens = (rest : List Token) × (tokens ≡ slice_index_or parts 0 [] ++ rest)

@@ -1,5 +1,5 @@
 -- What a token is to a macro call, and how deep in braces a text is.
-use Rattle.std.specs.Prelude.{ℕ, zero, suc, Bool, false, ◌&&◌, List, [], ◌∷◌, Option, Some, None, ◌==◌, ◌≡◌, ◌++◌, if◌then◌else◌}
+use Rattle.std.specs.Prelude.{ℕ, zero, suc, Bool, false, ◌&&◌, All, length, take, ◌-◌, List, [], ◌∷◌, Option, Some, None, ◌==◌, ◌≡◌, ◌++◌, if◌then◌else◌}
 use Rattle.etx_matter.specs.declared.token.Token.{Token}
 use Rattle.etx_matter.specs.declared.token.Token.TheVariants.{Char, Name, Param}
 
@@ -20,6 +20,15 @@ abbrev pub is_par : Token → Bool
 is_par (Char code cat) = false
 is_par (Name name) = name.0 == 0
 is_par (Param k) = false
+
+-- a token that is no brace
+abbrev pub IsUnbraced : Token → Type 0
+IsUnbraced t = (has_category t 1 ≡ false) × (has_category t 2 ≡ false)
+
+-- What may stand before the first parameter or delimit one: no token of it is a right brace, and none but the last one
+-- a left brace.
+abbrev pub IsDelimiter : List Token → Type 0
+IsDelimiter text = All (λ t. has_category t 2 ≡ false) text × All (λ t. has_category t 1 ≡ false) (take (length text - 1) text)
 
 -- one brace fewer is open: none where none was open
 abbrev pub closed : ℕ → Option ℕ

@@ -1,5 +1,5 @@
 -- The match of a call, token by token.
-use Rattle.std.specs.Prelude.{ℕ, zero, suc, Bool, not, ◌&&◌, List, ◌++◌, Option, Some, None, Result, Ok, Err, ◌≡◌, ◌==◌, if◌then◌else◌}
+use Rattle.std.specs.Prelude.{ℕ, zero, suc, Bool, not, ◌&&◌, List, take, ◌<◌, ◌≤◌, Option, Some, None, Result, Ok, Err, ◌==◌, if◌then◌else◌}
 use Rattle.etx_matter.specs.declared.token.Token.{Token}
 use Rattle.etx_macros.specs.declared.argument.Turn.{Turn}
 use Rattle.etx_macros.specs.declared.argument.Turn.TheVariants as turn
@@ -7,11 +7,7 @@ use Rattle.etx_macros.specs.declared.fault.Fed.{Fed}
 use Rattle.etx_macros.specs.declared.fault.Fed.TheVariants.{More, Done}
 use Rattle.etx_macros.specs.declared.fault.MatchFault.{MatchFault}
 use Rattle.etx_macros.specs.declared.fault.MatchFault.TheVariants.{ParagraphEnded, ExtraBrace}
-use Rattle.etx_macros.specs.Marks.{is_space, is_par, behind, IsBalanced}
-
--- the text is balanced up to the delimiter at its end
-abbrev pub IsFound : List Token → List Token → Type 0
-IsFound delimiter text = (raw : List Token) × (text ≡ raw ++ delimiter) × IsBalanced raw
+use Rattle.etx_macros.specs.Marks.{is_space, is_par, behind, EndsWith}
 
 -- where so many braces are open behind a token, an undelimited argument goes on, or is over
 abbrev pub undelimited_behind : Option ℕ → Turn
@@ -22,6 +18,12 @@ undelimited_behind (Some (suc n)) = turn.Keep (suc n)
 abbrev pub delimited_behind : Option ℕ → Result ℕ MatchFault
 delimited_behind None = Err ExtraBrace
 delimited_behind (Some n) = Ok n
+
+-- the longest beginning of the delimiter, of at most so many tokens, that ends the text
+pub record IsLongest (text delimiter : List Token) (most count : ℕ) : Type 0 where
+  pub within : count ≤ most
+  pub ends : EndsWith text (take count delimiter)
+  pub longest : (more : ℕ) → count < more → more ≤ most → EndsWith text (take more delimiter) → ⊥
 
 -- what a token makes of an undelimited argument in which so many braces are open
 unfoldable pub undelimited_turn : ℕ → Bool → Token → Turn

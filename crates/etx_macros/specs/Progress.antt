@@ -1,14 +1,12 @@
 -- How far the match of a call has come.
 use Rattle.std.specs.Prelude.{ℕ, ◌+◌, ◌<◌, Bool, true, false, List, [], ◌∷◌, ◌++◌, ◌≡◌, ◌⊎◌, length, take, slice_index_or}
 use Rattle.etx_matter.specs.declared.token.Token.{Token}
-use Rattle.etx_macros.specs.declared.fault.MatchFault.{MatchFault}
-use Rattle.etx_macros.specs.declared.fault.MatchFault.TheVariants.{DoesNotMatch, ParagraphEnded, ExtraBrace}
 use Rattle.etx_macros.specs.declared.fault.Fed.{Fed}
 use Rattle.etx_macros.specs.declared.fault.Fed.TheVariants.{More, Done, Fault, OutOfMemory}
 use Rattle.etx_macros.specs.declared.matcher.Matcher.{Matcher}
-use Rattle.etx_macros.specs.Marks.{has_category, is_par}
-use Rattle.etx_macros.specs.Calls.{Gives, EndsInside, MatchesCall}
-use Rattle.etx_macros.specs.Matching.{said_at, IsFound}
+use Rattle.etx_macros.specs.Calls.{Gives, MatchesCall, NoCall}
+use Rattle.etx_macros.specs.Says.{Why, Says}
+use Rattle.etx_macros.specs.Matching.{said_at}
 use Rattle.etx_macros.specs.Within.{Within}
 
 -- in the text before the first parameter
@@ -22,13 +20,13 @@ pub record InText (parts args : List (List Token)) (part : ℕ) (read : List Tok
   pub wants : 0 < length rest
 
 -- in an argument: the call so far is one of the parts before, then what was read of the argument
-pub record InArgument (parts : List (List Token)) (long : Bool) (args : List (List Token)) (part : ℕ) (read : List Token) (depth : ℕ) (call : List Token) : Type 0 where
+pub record InArgument (parts : List (List Token)) (long : Bool) (args : List (List Token)) (part : ℕ) (read : List Token) (depth found : ℕ) (call : List Token) : Type 0 where
   pub past_text : 0 < part
   pub before : List Token
   pub matched : MatchesCall long (take part parts) before args
   pub skipped : List Token
   pub whole : call ≡ before ++ (skipped ++ read)
-  pub within : Within long (slice_index_or parts part []) skipped read depth
+  pub within : Within long (slice_index_or parts part []) skipped read depth found
 
 -- more tokens are wanted
 pub record IsGoing (m : Matcher) : Type 0 where
@@ -42,38 +40,29 @@ pub record IsDone (m : Matcher) : Type 0 where
 
 -- these tokens were fed so far, and more are wanted
 abbrev pub IsAfter : Matcher → List Token → Type 0
-IsAfter m call = IsGoing m × (InText m.parts m.args m.part m.read m.depth call ⊎ InArgument m.parts m.long m.args m.part m.read m.depth call)
+IsAfter m call = IsGoing m × (InText m.parts m.args m.part m.read m.depth call ⊎ InArgument m.parts m.long m.args m.part m.read m.depth m.matched call)
 
 -- the tokens are a call with these arguments
 abbrev pub IsWhole : Matcher → List Token → Type 0
 IsWhole m call = IsDone m × MatchesCall m.long m.parts call m.args
 
--- what a matcher says when these tokens were fed
+-- what stands behind a token that was taken
+abbrev pub Comes : Fed → Matcher → List Token → Type 0
+Comes More m call = IsAfter m call
+Comes Done m call = IsWhole m call
+Comes (Fault fault) m call = NoCall m.long m.parts call × Why fault m.long m.parts call
+Comes OutOfMemory m call = Unit {0}
+
+-- what a matcher is when these tokens were fed
+abbrev pub Is : Fed → Matcher → List Token → Type 0
+Is More m call = IsAfter m call
+Is Done m call = IsWhole m call
+Is (Fault fault) m call = Unit {0}
+Is OutOfMemory m call = Unit {0}
+
+-- what a matcher says of the tokens that were fed is true, and it is ready for the next one, or has the arguments
 abbrev pub Means : Fed → Matcher → List Token → Type 0
-Means More m call = IsAfter m call
-Means Done m call = IsWhole m call
-Means (Fault fault) m call = Unit {0}
-Means OutOfMemory m call = Unit {0}
-
--- outside braces, the token may belong to the delimiter
-abbrev pub IsAbsorbed : Matcher → Token → Type 0
-IsAbsorbed m t = (m.depth ≡ 0) × EndsInside (m.read ++ t ∷ []) (slice_index_or m.parts m.part [])
-
--- the token doesn't end a delimited argument
-abbrev pub IsUnfound : Matcher → Token → Type 0
-IsUnfound m t = (slice_index_or m.parts m.part [] ≡ [] → ⊥) → IsFound (slice_index_or m.parts m.part []) (m.read ++ t ∷ []) → ⊥
-
--- why a token is the fault that it is
-abbrev pub IsCause : MatchFault → Matcher → Token → Type 0
-IsCause DoesNotMatch m t = (m.part ≡ 0) × ((rest : List Token) → slice_index_or m.parts 0 [] ≡ (m.read ++ t ∷ []) ++ rest → ⊥)
-IsCause ParagraphEnded m t = (0 < m.part) × IsUnfound m t × (m.long ≡ false) × (is_par t ≡ true) × (IsAbsorbed m t → ⊥)
-IsCause ExtraBrace m t = (0 < m.part) × IsUnfound m t × (m.depth ≡ 0) × (has_category t 2 ≡ true)
-
-abbrev pub HasCause : Fed → Matcher → Token → Type 0
-HasCause More m t = Unit {0}
-HasCause Done m t = Unit {0}
-HasCause (Fault fault) m t = IsCause fault m t
-HasCause OutOfMemory m t = Unit {0}
+Means fed m call = Says fed m.long m.parts call × Is fed m call
 
 -- an argument is over, of which the last so many tokens were its delimiter
 pub record EndsArgument (m m' : Matcher) (delimiter : ℕ) (fed : Fed) : Type 0 where
@@ -90,6 +79,7 @@ pub record EndsArgument (m m' : Matcher) (delimiter : ℕ) (fed : Fed) : Type 0 
   pub part_is : m'.part ≡ m.part + 1
   pub read_is : m'.read ≡ []
   pub depth_is : m'.depth ≡ 0
+  pub matched_is : m'.matched ≡ 0
   pub fed_is : fed ≡ said_at (m.part + 1) (length m.parts)
 
 -- whether a matcher goes on, as it says
@@ -119,4 +109,5 @@ pub record IsStart (m : Matcher) (parts : List (List Token)) (long : Bool) (part
   pub part_is : m.part ≡ part
   pub read_is : m.read ≡ []
   pub depth_is : m.depth ≡ 0
+  pub matched_is : m.matched ≡ 0
   pub failed_is : m.failed ≡ false

@@ -1,8 +1,8 @@
 // The text of an argument.
 ghost use Rattle.std.specs.Prelude.{◌≡◌, ◌<◌, ◌≤◌, ◌↔◌, ◌⊎◌, IsTrue, IfOk, MatchBool, List, length, slice_get, Some};
 ghost use Rattle.etx_matter.specs.declared.token.Token.{Token};
-ghost use Rattle.etx_macros.specs.Calls.{Gives, EndsInside, IsGroup, inner_of};
-ghost use Rattle.etx_macros.specs.Matching.{IsFound, undelimited_turn, delimited_turn, said_at};
+ghost use Rattle.etx_macros.specs.Calls.{Gives, IsGroup, inner_of};
+ghost use Rattle.etx_macros.specs.Matching.{IsLongest, undelimited_turn, delimited_turn, said_at};
 
 use crate::fault::{Fed, MatchFault};
 use crate::mark::{behind, ends_with, has_category, is_balanced, is_par, is_same, is_space};
@@ -22,27 +22,20 @@ pub enum Turn {
     Fault(MatchFault),
 }
 
-/// Whether a text is balanced up to a delimiter at its end.
-pub fn is_found(read: &[Token], delimiter: &[Token]) -> bool
-    requires { length read.now ≤ 1073741824 }
-    ensures { IsTrue result ↔ IsFound delimiter.now read.now }
+/// How many tokens of the delimiter end a text, if no more than `most` of them do.
+pub fn longest_end(text: &[Token], delimiter: &[Token], most: usize) -> usize
+    requires { most ≤ length delimiter.now }
+    ensures longest { IsLongest text.now delimiter.now most result }
+    ensures short { result ≤ length text.now }
 {
-    if !ends_with(read, delimiter) {
-        return false;
-    }
-    is_balanced(&read[..read.len() - delimiter.len()])
-}
-
-/// Whether a text ends with a beginning of the delimiter, of one token at least.
-pub fn ends_inside(read: &[Token], delimiter: &[Token]) -> bool
-    ensures { IsTrue result ↔ EndsInside read.now delimiter.now }
-{
-    for count in 0..delimiter.len() {
-        if ends_with(read, &delimiter[..count + 1]) {
-            return true;
+    let mut count = most;
+    while count > 0 {
+        if ends_with(text, &delimiter[..count]) {
+            return count;
         }
+        count -= 1;
     }
-    false
+    0
 }
 
 /// Whether a text is one pair of braces around a balanced text.

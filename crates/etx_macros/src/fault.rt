@@ -5,21 +5,22 @@
 pub enum MatchFault {
     /// It isn't the next token of the text before the first parameter.
     DoesNotMatch,
-    /// It is `\par` in an argument of a macro that isn't long, and no beginning of a delimiter.
+    /// It is `\par` in an argument of a macro that isn't long, and doesn't stand outside braces where it begins the
+    /// argument's delimiter or goes on with it.
     ParagraphEnded,
     /// It is a right brace that no left brace of the argument opens.
     ExtraBrace,
 }
 
-/// What a call says after a token.
+/// What is said of the tokens of a call, after the last one that was fed.
 #[derive(Clone, Copy, Debug, PartialEq, Eq)]
 pub enum Fed {
-    /// The call goes on.
+    /// They are the beginning of a call: more tokens are wanted.
     More,
-    /// The call is complete.
+    /// They are a call.
     Done,
-    /// No call goes on so. The matcher has failed.
+    /// No call begins with them. The matcher has failed.
     Fault(MatchFault),
-    /// The matcher has failed.
+    /// There was no memory for the token. The matcher has failed.
     OutOfMemory,
 }

@@ -15,6 +15,6 @@ mod pattern;
 mod tests;
 
 pub use fault::{Fed, MatchFault};
-pub use law::each_text_begins_with_one_call;
+pub use law::{each_text_begins_with_one_call, one_thing_is_said_of_any_tokens};
 pub use matcher::Matcher;
 pub use pattern::{Pattern, PatternFault};

@@ -1,8 +1,9 @@
 // The match of a call, token by token.
-ghost use Rattle.std.specs.Prelude.{◌≤◌, length};
+ghost use Rattle.std.specs.Prelude.{◌≤◌, length, All};
+ghost use Rattle.etx_macros.specs.Marks.{IsDelimiter};
 
 use crate::argument::{
-    Turn, delimited_turn, ends_inside, has_at, is_found, said, undelimited_turn, unwrapped,
+    Turn, delimited_turn, has_at, longest_end, said, undelimited_turn, unwrapped,
 };
 use crate::fault::{Fed, MatchFault};
 use crate::pattern::Pattern;
@@ -25,16 +26,20 @@ pub struct Matcher {
     read: Tokens,
     /// How many braces are open in what was read.
     depth: usize,
+    /// How many tokens of the delimiter end what was read, where no brace is open.
+    matched: usize,
     failed: bool,
     ghost shallow: { depth ≤ length read },
+    ghost short: { matched ≤ length read },
+    ghost flat: { All IsDelimiter parts },
 }
 
 impl Matcher {
-    ghost use Rattle.std.specs.Prelude.{◌≡◌, ◌<◌, ◌≤◌, ◌++◌, ◌∷◌, [], ◌↔◌, ◌⊎◌, IsTrue, IfOk, MatchBool, length, List, slice_index_or};
+    ghost use Rattle.std.specs.Prelude.{◌≡◌, ◌<◌, ◌≤◌, ◌++◌, ◌∷◌, [], ◌+◌, ◌⊎◌, IfOk, MatchBool, length, List, slice_index_or, min};
     ghost use Rattle.etx_matter.specs.declared.token.Token.{Token};
-    ghost use Rattle.etx_macros.specs.Progress.{IsGoing, IsDone, IsAfter, IsWhole, Means, HasCause, EndsArgument, GoesOn, Stands, KeepsPattern, IsStart};
-    ghost use Rattle.etx_macros.specs.Matching.{IsFound};
-    ghost use Rattle.etx_macros.specs.Calls.{EndsInside};
+    ghost use Rattle.etx_macros.specs.Progress.{IsGoing, IsDone, IsAfter, Comes, Means, EndsArgument, GoesOn, Stands, KeepsPattern, IsStart};
+    ghost use Rattle.etx_macros.specs.declared.fault.Fed.TheVariants.{More, Done};
+    ghost use Rattle.etx_macros.specs.Matching.{IsLongest};
 
     /// Ends an argument, the last `delimiter` tokens of which are its delimiter.
     fn end_argument(&mut self, delimiter: usize) -> Result<Fed, AllocError>
@@ -50,6 +55,7 @@ impl Matcher {
         self.part += 1;
         self.read = Tokens::new(self.alloc);
         self.depth = 0;
+        self.matched = 0;
         Ok(said(self.part, count))
     }
 
@@ -61,7 +67,7 @@ impl Matcher {
         self.depth.min(self.read.len())
     }
 
-    /// The text of the part that is being matched.
+    /// The text of the part that is being matched: a delimiter, or the text before the first parameter.
     fn delimiter(&self) -> &[Token]
         requires { IsGoing self.now }
         ensures same { result.now ≡ slice_index_or self.now.parts self.now.part [] }
@@ -70,28 +76,36 @@ impl Matcher {
         self.parts.as_slice()[self.part].as_slice()
     }
 
-    /// Whether the delimiter ends what was read.
-    fn has_found(&self) -> bool
-        requires { IsGoing self.now }
-        ensures { IsTrue result ↔ IsFound (slice_index_or self.now.parts self.now.part []) self.now.read }
+    /// How many tokens of the delimiter ended what was read before the last token: no more than were read.
+    fn matched_before(&self) -> usize
+        ensures matched { result ≡ self.now.matched }
+        ensures small { result ≤ 1073741824 }
     {
-        is_found(self.read.as_slice(), self.delimiter())
+        self.matched.min(self.read.len())
     }
 
-    /// Whether the last token stands outside braces and may belong to the delimiter.
-    fn is_inside(&self) -> bool
+    /// How many tokens of the delimiter end what was read, the last token included: none inside braces, where it isn't
+    /// looked for. A token lengthens what is matched by one at most, and each test but the last shortens it: so there
+    /// are no more than two tests a token, over a whole argument.
+    fn matched_now(&self) -> usize
         requires { IsGoing self.now }
-        ensures { IsTrue result ↔ (self.now.depth ≡ 0) × EndsInside self.now.read (slice_index_or self.now.parts self.now.part []) }
+        ensures inside { 0 < self.now.depth → result ≡ 0 }
+        ensures outside { self.now.depth ≡ 0 → IsLongest self.now.read (slice_index_or self.now.parts self.now.part []) (min (self.now.matched + 1) (length (slice_index_or self.now.parts self.now.part []))) result }
+        ensures short { result ≤ length self.now.read }
     {
-        self.depth == 0 && ends_inside(self.read.as_slice(), self.delimiter())
+        if self.depth > 0 {
+            return 0;
+        }
+        let delimiter = self.delimiter();
+        let most = (self.matched_before() + 1).min(delimiter.len());
+        longest_end(self.read.as_slice(), delimiter, most)
     }
 
     /// A token of the text before the first parameter.
     fn go_text(&mut self, token: Token) -> Result<Fed, AllocError>
         requires going { IsGoing self.old }
         requires part { self.old.part ≡ 0 }
-        ensures means { IfOk result (λ fed. (call : List Token) → IsAfter self.old call → Means fed self.new (call ++ token ∷ [])) }
-        ensures cause { IfOk result (λ fed. HasCause fed self.old token) }
+        ensures means { IfOk result (λ fed. (call : List Token) → IsAfter self.old call → Comes fed self.new (call ++ token ∷ [])) }
         ensures goes { IfOk result (λ fed. GoesOn fed self.new) }
         ensures keeps { KeepsPattern self.old self.new }
     {
@@ -107,8 +121,9 @@ impl Matcher {
             return Ok(Fed::More);
         }
         self.part = 1;
-        self.depth = 0;
         self.read = Tokens::new(self.alloc);
+        self.depth = 0;
+        self.matched = 0;
         Ok(said(1, count))
     }
 
@@ -117,8 +132,7 @@ impl Matcher {
         requires going { IsGoing self.old }
         requires part { 0 < self.old.part }
         requires bare { slice_index_or self.old.parts self.old.part [] ≡ [] }
-        ensures means { IfOk result (λ fed. (call : List Token) → IsAfter self.old call → Means fed self.new (call ++ token ∷ [])) }
-        ensures cause { IfOk result (λ fed. HasCause fed self.old token) }
+        ensures means { IfOk result (λ fed. (call : List Token) → IsAfter self.old call → Comes fed self.new (call ++ token ∷ [])) }
         ensures goes { IfOk result (λ fed. GoesOn fed self.new) }
         ensures keeps { KeepsPattern self.old self.new }
     {
@@ -142,19 +156,19 @@ impl Matcher {
         requires going { IsGoing self.old }
         requires part { 0 < self.old.part }
         requires delimited { slice_index_or self.old.parts self.old.part [] ≡ [] → ⊥ }
-        ensures means { IfOk result (λ fed. (call : List Token) → IsAfter self.old call → Means fed self.new (call ++ token ∷ [])) }
-        ensures cause { IfOk result (λ fed. HasCause fed self.old token) }
+        ensures means { IfOk result (λ fed. (call : List Token) → IsAfter self.old call → Comes fed self.new (call ++ token ∷ [])) }
         ensures goes { IfOk result (λ fed. GoesOn fed self.new) }
         ensures keeps { KeepsPattern self.old self.new }
     {
         self.read.push(token)?;
-        if self.has_found() {
-            let length = self.delimiter().len();
-            return self.end_argument(length);
+        let matched = self.matched_now();
+        if matched == self.delimiter().len() {
+            return self.end_argument(matched);
         }
-        match delimited_turn(self.is_inside(), self.open_braces(), self.long, token) {
+        match delimited_turn(matched > 0, self.open_braces(), self.long, token) {
             Ok(depth) => {
                 self.depth = depth;
+                self.matched = matched;
                 Ok(Fed::More)
             }
             Err(fault) => Ok(Fed::Fault(fault)),
@@ -164,8 +178,7 @@ impl Matcher {
     /// A token of any part.
     fn go(&mut self, token: Token) -> Result<Fed, AllocError>
         requires { IsGoing self.old }
-        ensures means { IfOk result (λ fed. (call : List Token) → IsAfter self.old call → Means fed self.new (call ++ token ∷ [])) }
-        ensures cause { IfOk result (λ fed. HasCause fed self.old token) }
+        ensures means { IfOk result (λ fed. (call : List Token) → IsAfter self.old call → Comes fed self.new (call ++ token ∷ [])) }
         ensures goes { IfOk result (λ fed. GoesOn fed self.new) }
         ensures keeps { KeepsPattern self.old self.new }
     {
@@ -181,7 +194,7 @@ impl Matcher {
 
     /// A matcher that nothing was fed to. A pattern with no token and no parameter is a complete call at once.
     pub fn new(alloc: Global, pattern: &Pattern, long: bool) -> Result<Matcher, AllocError>
-        ensures starts { IfOk result (λ m. IsAfter m [] ⊎ IsWhole m []) }
+        ensures starts { IfOk result (λ m. Means More m [] ⊎ Means Done m []) }
         ensures parts { IfOk result (λ m. m.parts ≡ pattern.now.parts) }
         ensures long { IfOk result (λ m. m.long ≡ long) }
     {
@@ -194,6 +207,7 @@ impl Matcher {
 
     /// A matcher that begins with a part.
     fn at_part(alloc: Global, parts: Listed<Tokens>, long: bool, part: usize) -> Matcher
+        requires { All IsDelimiter parts }
         ensures { IsStart result parts long part }
     {
         Matcher {
@@ -204,6 +218,7 @@ impl Matcher {
             part,
             read: Tokens::new(alloc),
             depth: 0,
+            matched: 0,
             failed: false,
         }
     }
@@ -222,11 +237,15 @@ impl Matcher {
         !self.failed && self.part == self.parts.len()
     }
 
-    /// Takes the next token of the call.
+    /// Takes the next token of the call, and says what the tokens that were fed so far are: `More` where they are the
+    /// beginning of a call and not all of it, `Done` where they are a call, and a fault where no call begins with them;
+    /// so it comes at the first such token. Each is said exactly there, want of memory aside. Needs a matcher that has
+    /// said nothing but `More` (see [`Matcher::is_going`]); it has failed after a fault or want of memory.
+    ///
+    /// Outside braces a token costs two tests for the delimiter at most, on average, and inside them none.
     pub fn feed(&mut self, token: Token) -> Fed
         requires { IsGoing self.old }
         ensures means { (call : List Token) → IsAfter self.old call → Means result self.new (call ++ token ∷ []) }
-        ensures cause { HasCause result self.old token }
         ensures stands { Stands result self.new }
         ensures keeps { KeepsPattern self.old self.new }
     {
@@ -244,7 +263,7 @@ impl Matcher {
         }
     }
 
-    /// The arguments, in order. Takes no memory.
+    /// The arguments of a call that is complete, in order. Takes no memory.
     pub fn args(&self) -> &[Tokens]
         requires { IsDone self.now }
         ensures { result.now ≡ self.now.args }

@@ -1,8 +1,8 @@
 // A macro's parameter text.
-ghost use Rattle.std.specs.Prelude.{◌≡◌, ◌≤◌, ◌<◌, IfOk, MatchResult, Ok, length, drop};
+ghost use Rattle.std.specs.Prelude.{◌≡◌, ◌≤◌, ◌<◌, ◌++◌, ◌∷◌, [], All, IfOk, MatchResult, Ok, length, drop};
 ghost use Rattle.etx_macros.specs.declared.pattern.PatternFault.TheVariants.{OutOfMemory};
-ghost use Rattle.etx_macros.specs.Marks.{has_category};
-ghost use Rattle.etx_macros.specs.ParameterText.{pattern_of, is_digit, IsFaultOf, wrong_number, number_of, last_of, behind_of, next_of};
+ghost use Rattle.etx_macros.specs.Marks.{has_category, IsDelimiter};
+ghost use Rattle.etx_macros.specs.ParameterText.{pattern_of, is_brace, is_digit, IsFaultOf, wrong_number, number_of, behind_of, next_of};
 
 use crate::mark::has_category;
 use etx_lists::Listed;
@@ -18,6 +18,7 @@ pub struct Pattern {
     /// The text before the first parameter, then for each parameter the text that delimits it, which may be empty.
     pub parts: Listed<Tokens>,
     ghost has_text: { 0 < length parts },
+    ghost flat: { All IsDelimiter parts },
 }
 
 /// What is wrong with a parameter text.
@@ -51,13 +52,13 @@ fn is_digit(token: Token, n: u8) -> bool
 
 /// What a parameter text begins with.
 enum Next {
-    /// Nothing: the text is over.
+    /// Nothing, or a brace: the text is over.
     End,
     /// A token that is to be matched as it is.
     Text(Token),
     /// A character of category 6 and the next number.
     Parameter,
-    /// A character of category 6 and a left brace, and nothing more: the brace is to be matched.
+    /// A character of category 6 and a left brace: the brace is to be matched, and the text is over.
     Brace(Token),
 }
 
@@ -86,32 +87,27 @@ fn number_at(token: Token, count: usize) -> Result<Next, PatternFault>
     }
 }
 
-/// The brace that this last token of a text is, or the parameter that it numbers.
-fn last_at(token: Token, count: usize) -> Result<Next, PatternFault>
-    requires { count ≤ 9 }
-    ensures { result ≡ last_of count token }
-{
-    if has_category(token, 1) {
-        Ok(Next::Brace(token))
-    } else {
-        number_at(token, count)
-    }
-}
-
 /// What stands at `at`, behind a character of category 6.
 fn behind_mark(tokens: &[Token], at: usize, count: usize) -> Result<Next, PatternFault>
     requires count { count ≤ 9 }
     requires at { at ≤ length tokens.now }
-    requires small { length tokens.now ≤ 1073741824 }
     ensures { result ≡ behind_of count (drop at tokens.now) }
 {
     if at == tokens.len() {
         return Err(wrong_number(count));
     }
-    if at + 1 == tokens.len() {
-        return last_at(tokens[at], count);
+    let token = tokens[at];
+    if has_category(token, 1) {
+        return Ok(Next::Brace(token));
     }
-    number_at(tokens[at], count)
+    number_at(token, count)
+}
+
+/// Whether a token is a brace of either kind.
+fn is_brace(token: Token) -> bool
+    ensures { result ≡ is_brace token }
+{
+    has_category(token, 1) || has_category(token, 2)
 }
 
 /// What stands at `at`, where `count` parameters went before.
@@ -125,16 +121,31 @@ fn next_in(tokens: &[Token], at: usize, count: usize) -> Result<Next, PatternFau
         return Ok(Next::End);
     }
     let token = tokens[at];
+    if is_brace(token) {
+        return Ok(Next::End);
+    }
     if has_category(token, 6) {
         return behind_mark(tokens, at + 1, count);
     }
     Ok(Next::Text(token))
 }
 
+/// A pattern of these parts, and a last one.
+fn whole(mut parts: Listed<Tokens>, last: Tokens) -> Result<Pattern, AllocError>
+    requires parts { All IsDelimiter parts }
+    requires last { IsDelimiter last }
+    ensures { IfOk result (λ pattern. pattern.parts ≡ parts ++ last ∷ []) }
+{
+    parts.push(last)?;
+    Ok(Pattern { parts })
+}
+
 impl Pattern {
     /// Takes a parameter text apart. In it a parameter is a character of category 6 and the next digit, of category 12,
-    /// from 1 on; a character of category 6 and a left brace (category 1) at the very end stand for that brace, which is
-    /// then the last token to be matched. All other tokens are matched as they are.
+    /// from 1 on. All other tokens are matched as they are, up to the first brace (category 1 or 2), which ends the
+    /// parameter text: it belongs to the macro's body, as does all that follows ("TeX: The Program", section 474). A
+    /// character of category 6 and a left brace end it too; they stand for that brace, which is then the last token to
+    /// be matched (section 476).
     ///
     /// The first character of category 6 that has neither behind it decides the fault: `TooManyParameters` where nine
     /// parameters went before, else `BadNumber`.
@@ -151,14 +162,14 @@ impl Pattern {
                 Err(fault) => return Err(fault),
             };
             match next {
-                Next::End => break,
+                Next::End => return Ok(whole(parts, part)?),
                 Next::Text(token) => {
                     part.push(token)?;
                     at += 1;
                 }
                 Next::Brace(brace) => {
                     part.push(brace)?;
-                    at += 2;
+                    return Ok(whole(parts, part)?);
                 }
                 Next::Parameter => {
                     parts.push(part)?;
@@ -167,8 +178,6 @@ impl Pattern {
                 }
             }
         }
-        parts.push(part)?;
-        Ok(Pattern { parts })
     }
 
     /// An equal pattern's parts.

@@ -45,7 +45,19 @@ struct Wrong {
     fault: MatchFault,
 }
 
-const CALLS: [Call; 42] = [
+const CALLS: [Call; 44] = [
+    Call {
+        params: b"#1.{x#}",
+        long: false,
+        call: b"a.",
+        args: &[b"a"],
+    },
+    Call {
+        params: b"#1#2#3#4#5#6#7#8#9#{",
+        long: false,
+        call: b"abcdefghi{",
+        args: &[b"a", b"b", b"c", b"d", b"e", b"f", b"g", b"h", b"i"],
+    },
     Call {
         params: b"#1",
         long: false,
@@ -375,75 +387,93 @@ const WRONG: [Wrong; 12] = [
     },
 ];
 
+/// Whether these are the arguments that are wanted.
+fn are(alloc: Global, args: &[Tokens], wanted: &[&[u8]]) -> Result<bool, AllocError> {
+    if args.len() != wanted.len() {
+        return Ok(false);
+    }
+    for (arg, text) in args.iter().zip(wanted) {
+        if arg.as_slice() != tokens(alloc, text)?.as_slice() {
+            return Ok(false);
+        }
+    }
+    Ok(true)
+}
+
+/// What is said of the last token of a call, and the matcher then; nothing where the call is over before.
+fn fed(
+    alloc: Global,
+    pattern: &Pattern,
+    long: bool,
+    call: &[u8],
+) -> Result<Option<(Fed, Matcher)>, AllocError> {
+    let mut matcher = Matcher::new(alloc, pattern, long)?;
+    let mut last = Fed::More;
+    for byte in call {
+        if !matcher.is_going() {
+            return Ok(None);
+        }
+        last = matcher.feed(token_of(*byte));
+    }
+    Ok(Some((last, matcher)))
+}
+
+/// Whether a call is complete at its last token, with the arguments of its row.
+fn is_right(alloc: Global, row: &Call) -> Result<bool, Fail> {
+    let pattern = Pattern::read(alloc, &tokens(alloc, row.params)?)?;
+    let Some((_, matcher)) = fed(alloc, &pattern, row.long, row.call)? else {
+        return Ok(false);
+    };
+    if !matcher.is_done() {
+        return Ok(false);
+    }
+    Ok(are(alloc, matcher.args(), row.args)?)
+}
+
+/// Whether a call goes wrong at its last token, as its row says.
+fn is_wrong(alloc: Global, row: &Wrong) -> Result<bool, Fail> {
+    let pattern = Pattern::read(alloc, &tokens(alloc, row.params)?)?;
+    let Some((last, _)) = fed(alloc, &pattern, row.long, row.call)? else {
+        return Ok(false);
+    };
+    Ok(last == Fed::Fault(row.fault))
+}
+
 #[test]
 fn calls_give_the_arguments_that_tex_finds(rt: HostRuntime) -> Result<(), Fail> {
-    let alloc = rt.alloc();
     for row in &CALLS {
-        let pattern = Pattern::read(alloc, &tokens(alloc, row.params)?)?;
-        let mut matcher = Matcher::new(alloc, &pattern, row.long)?;
-        for byte in row.call {
-            assert!(rt; matcher.is_going());
-            matcher.feed(token_of(*byte));
-        }
-        assert!(rt; matcher.is_done());
-        let args = matcher.args();
-        assert_eq!(rt; args.len(), row.args.len());
-        for (arg, wanted) in args.iter().zip(row.args) {
-            assert!(rt; arg.as_slice() == tokens(alloc, wanted)?.as_slice());
-        }
+        assert!(rt; is_right(rt.alloc(), row)?);
     }
     Ok(())
 }
 
 #[test]
 fn calls_go_wrong_at_the_token_at_which_tex_stops(rt: HostRuntime) -> Result<(), Fail> {
-    let alloc = rt.alloc();
     for row in &WRONG {
-        let pattern = Pattern::read(alloc, &tokens(alloc, row.params)?)?;
-        let mut matcher = Matcher::new(alloc, &pattern, row.long)?;
-        let mut last = Fed::More;
-        for byte in row.call {
-            assert!(rt; matcher.is_going());
-            last = matcher.feed(token_of(*byte));
-        }
-        assert!(rt; last == Fed::Fault(row.fault));
-        assert!(rt; !matcher.is_going());
+        assert!(rt; is_wrong(rt.alloc(), row)?);
     }
     Ok(())
 }
 
-/// What is wrong with a parameter text.
-fn fault_of(alloc: Global, params: &[u8]) -> Result<Option<PatternFault>, AllocError> {
+/// Whether a parameter text is refused with this fault.
+fn is_refused(alloc: Global, params: &[u8], fault: PatternFault) -> Result<bool, AllocError> {
     match Pattern::read(alloc, &tokens(alloc, params)?) {
-        Ok(_) => Ok(None),
-        Err(fault) => Ok(Some(fault)),
+        Ok(_) => Ok(false),
+        Err(other) => Ok(other == fault),
     }
 }
 
+const BAD_NUMBERS: [&[u8]; 7] = [b"#2", b"#1#3", b"#", b"a#1#", b"#x", b"#}", b"#0"];
+
+const TOO_MANY: [&[u8]; 2] = [b"#1#2#3#4#5#6#7#8#9#1", b"#1#2#3#4#5#6#7#8#9#"];
+
 #[test]
 fn parameters_are_numbered_in_order(rt: HostRuntime) -> Result<(), Fail> {
-    let alloc = rt.alloc();
-    for wrong in [
-        b"#2".as_slice(),
-        b"#1#3",
-        b"#",
-        b"a#1#",
-        b"#x",
-        b"#{a",
-        b"#0",
-    ] {
-        assert_eq!(rt; fault_of(alloc, wrong)?, Some(PatternFault::BadNumber));
+    for wrong in BAD_NUMBERS {
+        assert!(rt; is_refused(rt.alloc(), wrong, PatternFault::BadNumber)?);
     }
-    assert_eq!(rt;
-        fault_of(alloc, b"#1#2#3#4#5#6#7#8#9#1")?,
-        Some(PatternFault::TooManyParameters)
-    );
-    assert_eq!(rt;
-        fault_of(alloc, b"#1#2#3#4#5#6#7#8#9#")?,
-        Some(PatternFault::TooManyParameters)
-    );
-    assert_eq!(rt; fault_of(alloc, b"#1#2#3#4#5#6#7#8#9#{")?, None);
-    let pattern = Pattern::read(alloc, &tokens(alloc, b"#1.")?)?;
-    assert_eq!(rt; pattern.parts.len(), 2);
+    for wrong in TOO_MANY {
+        assert!(rt; is_refused(rt.alloc(), wrong, PatternFault::TooManyParameters)?);
+    }
     Ok(())
 }

@@ -23,5 +23,6 @@ returns-clause-ends c =
       part_is = refl;
       read_is = c.new.ensures;
       depth_is = refl;
+      matched_is = refl;
       fed_is = c.said.ensures ∙ ap (λ n. said_at (c.args.self.now.part + 1) n) c.len-count.ensures.len;
     }
