@@ -8,7 +8,7 @@ ghost use Rattle.etx_outside.specs.Outside.{Outside, outside_of, after, Front, F
 ghost use Rattle.etx_settle.specs.Deeds.{JournalState, AllOpen, first_pen};
 ghost use Rattle.etx_job.specs.Measure.{Falls, IsNoMore};
 ghost use Rattle.etx_job.specs.Words.{log_name};
-ghost use Rattle.etx_job.specs.Chain.{Start, printed, last_line, closing_by, reason_of, closing_fatally, closing_full, closing};
+ghost use Rattle.etx_job.specs.Chain.{Start, printed, last_line, closing_by, reason_of, closing_fatally, full_text, closing_full, closing};
 ghost use Rattle.etx_job.specs.Meaning.{AtAsk};
 ghost use Rattle.etx_job.specs.Going.{more_waiting, IsFor, Going, AfterTurn, Asks, Cut, Settled};
 
@@ -84,6 +84,16 @@ fn close_fatally(
     Ok(())
 }
 
+/// The text of a limit that would have been passed.
+fn find_full(alloc: Global, limit: Limit) -> Result<Bytes, AllocError>
+    ensures { IfOk result (λ text. text ≡ full_text limit) }
+{
+    let mut text = Bytes::from_slice(alloc, b"TeX capacity exceeded, sorry [")?;
+    text.extend_from_slice(limit.text())?;
+    text.extend_from_slice(b"]")?;
+    Ok(text)
+}
+
 /// The error of a limit that would have been passed, and the last line.
 fn close_full(
     alloc: Global,
@@ -93,9 +103,7 @@ fn close_full(
 ) -> Result<(), AllocError>
     ensures { OnOk result (journal.new ≡ more_waiting journal.old (closing_full limit line)) }
 {
-    let mut text = Bytes::from_slice(alloc, b"TeX capacity exceeded, sorry [")?;
-    text.extend_from_slice(limit.text())?;
-    text.extend_from_slice(b"]")?;
+    let text = find_full(alloc, limit)?;
     journal.push(Deed::Error {
         text,
         line,

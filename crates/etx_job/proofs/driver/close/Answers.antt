@@ -1,7 +1,10 @@
 use Rattle.etx_job.proofs.driver.close.Goals as goal
 
+pub returns-in-Hundred : goal.returns-in-Hundred
+returns-in-Hundred c = rw c.in-Hundred.is c.close_by.ensures
+
 pub returns-in-Spent : goal.returns-in-Spent
-returns-in-Spent c = rw c.in-Spent.is c.close_by.ensures
+returns-in-Spent c = rw c.in-Spent.is c.close_by-in-Spent.ensures
 
 pub returns-in-Unbuilt : goal.returns-in-Unbuilt
 returns-in-Unbuilt c = rw c.in-Unbuilt.is c.close_by-in-Unbuilt.ensures
