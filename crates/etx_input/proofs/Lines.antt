@@ -1,5 +1,5 @@
 -- The lines of a text, and what is lexed over them.
-use Rattle.std.proofs.Common.{◌≡◌, ℕ, zero, suc, ◌+◌, ◌<◌, ◌≤◌, List, [], ◌∷◌, length, Option, Some, None, IfSome, refl, sym, ◌∙◌, ap, subst, arith}
+use Rattle.std.proofs.Common.{◌≡◌, ℕ, zero, suc, ◌+◌, ℤ, ◌<◌, ◌≤◌, List, [], ◌∷◌, length, Option, Some, None, IfSome, refl, ◌∙◌, ap, subst, arith}
 use Rattle.etx_lexer.specs.Splitting.{Split, first_line}
 use Rattle.etx_lexer.proofs.FirstLines.{rest_is_shorter}
 use Rattle.etx_lexer.specs.Lex.{Lex, lexed_of}
@@ -7,7 +7,7 @@ use Rattle.etx_lexer.specs.Places.{line_of}
 use Rattle.etx_lexer.specs.declared.lexed.Lexed.{Lexed}
 use Rattle.etx_lexer.specs.declared.lexed.Lexed.TheVariants.{Char, Name, LineEnd, Invalid}
 use Rattle.etx_lexer.specs.declared.place.LineState.TheVariants.{New}
-use Rattle.etx_job.specs.Input.{InputState, end_of_line_code, line_read, Next, behind, got_or_more, next_in, next_of, first_and_more, lines_within, lines_of}
+use Rattle.etx_input.specs.Files.{FileState, line_read, Got, behind, got_or_more, got_in, got_of, first_and_more, lines_within, lines_of}
 
 -- ---- the lines of a text
 
@@ -42,35 +42,35 @@ lines_of-some (b ∷ text) s is =
 -- ---- what is lexed over the lines
 
 -- a lexed thing that is no end of a line is what is got
-got_is : (l : Lexed) (input : InputState) (more : Next) → (l ≡ LineEnd → ⊥) → got_or_more l input more ≡ record { got = Some l; input = input }
-got_is (Char code cat) input more other = refl
-got_is (Name name) input more other = refl
-got_is LineEnd input more other = absurd (other refl)
-got_is (Invalid code) input more other = refl
+got_is : (l : Lexed) (file : FileState) (more : Got) → (l ≡ LineEnd → ⊥) → got_or_more l file more ≡ record { lexed = Some l; file = file }
+got_is (Char code cat) file more other = refl
+got_is (Name name) file more other = refl
+got_is LineEnd file more other = absurd (other refl)
+got_is (Invalid code) file more other = refl
 
-module _ (cats : ℕ → ℕ) (v : InputState) where
+module _ (cats : ℕ → ℕ) (endline : ℤ) (v : FileState) where
   abbrev x : Lex
   x = lexed_of cats v.line v.state
 
   -- something was lexed
-  pub next_of-got : (x.lexed ≡ LineEnd → ⊥) → next_of cats v ≡ record { got = Some x.lexed; input = behind x v.number v.lines }
-  unfolding next_of
-  next_of-got other = by v.lines
+  pub got_of-got : (x.lexed ≡ LineEnd → ⊥) → got_of cats endline v ≡ record { lexed = Some x.lexed; file = behind x v.number v.lines }
+  unfolding got_of
+  got_of-got other = by v.lines
     where
-      by : (lines : List (List ℕ)) → next_in cats v.line v.state v.number lines ≡ record { got = Some x.lexed; input = behind x v.number lines }
-      by [] = got_is x.lexed (behind x v.number []) (record { got = None; input = behind x v.number [] }) other
-      by (l ∷ ls) = got_is x.lexed (behind x v.number (l ∷ ls)) (next_in cats (line_of l end_of_line_code) New (v.number + 1) ls) other
+      by : (lines : List (List ℕ)) → got_in cats endline v.line v.state v.number lines ≡ record { lexed = Some x.lexed; file = behind x v.number lines }
+      by [] = got_is x.lexed (behind x v.number []) (record { lexed = None; file = behind x v.number [] }) other
+      by (l ∷ ls) = got_is x.lexed (behind x v.number (l ∷ ls)) (got_in cats endline (line_of l endline) New (v.number + 1) ls) other
 
   -- the line was over, and it was the last one
-  pub next_of-over : x.lexed ≡ LineEnd → v.lines ≡ [] → next_of cats v ≡ record { got = None; input = behind x v.number [] }
-  unfolding next_of
-  next_of-over line_end none =
-      ap (next_in cats v.line v.state v.number) none
-      ∙ ap (λ (l : Lexed). got_or_more l (behind x v.number []) (record { got = None; input = behind x v.number [] })) line_end
+  pub got_of-over : x.lexed ≡ LineEnd → v.lines ≡ [] → got_of cats endline v ≡ record { lexed = None; file = behind x v.number [] }
+  unfolding got_of
+  got_of-over line_end none =
+      ap (got_in cats endline v.line v.state v.number) none
+      ∙ ap (λ (l : Lexed). got_or_more l (behind x v.number []) (record { lexed = None; file = behind x v.number [] })) line_end
 
   -- the line was over, and the next is read
-  pub next_of-line : (l : List ℕ) (ls : List (List ℕ)) → x.lexed ≡ LineEnd → v.lines ≡ l ∷ ls → next_of cats v ≡ next_of cats (line_read l v.number ls)
-  unfolding next_of
-  next_of-line l ls line_end more =
-      ap (next_in cats v.line v.state v.number) more
-      ∙ ap (λ (e : Lexed). got_or_more e (behind x v.number (l ∷ ls)) (next_in cats (line_of l end_of_line_code) New (v.number + 1) ls)) line_end
+  pub got_of-line : (l : List ℕ) (ls : List (List ℕ)) → x.lexed ≡ LineEnd → v.lines ≡ l ∷ ls → got_of cats endline v ≡ got_of cats endline (line_read endline l v.number ls)
+  unfolding got_of
+  got_of-line l ls line_end more =
+      ap (got_in cats endline v.line v.state v.number) more
+      ∙ ap (λ (e : Lexed). got_or_more e (behind x v.number (l ∷ ls)) (got_in cats endline (line_of l endline) New (v.number + 1) ls)) line_end

@@ -1,14 +1,13 @@
 -- What is read: a stack of files and lists of tokens, the innermost first ("TeX: The Program", sections 300 to 331, 357 and 362).
-use Rattle.std.specs.Prelude.{ℕ, ℤ, Bool, true, false, List, [], ◌∷◌, length, Option, Some, None}
+use Rattle.std.specs.Prelude.{ℕ, ℤ, List, [], ◌∷◌, Option, Some, None}
 use Rattle.etx_lexer.specs.declared.lexed.Lexed.{Lexed}
 use Rattle.etx_matter.specs.declared.token.Token.{Token}
-use Rattle.etx_input.specs.Files.{FileState, Got, got_of}
+use Rattle.etx_input.specs.Files.{FileState, got_of}
 use Rattle.etx_input.specs.declared.origin.Origin.{Origin}
 use Rattle.etx_input.specs.declared.level.Level.{Level}
 use Rattle.etx_input.specs.declared.level.Level.TheVariants as level
 use Rattle.etx_input.specs.declared.levels.Next.{Next}
 use Rattle.etx_input.specs.declared.levels.Next.TheVariants as gives
-use Rattle.etx_input.specs.Lists.{ListState}
 
 -- the levels, and the number of lines of the outermost file, once that is left
 pub record InputState : Type 0 where

@@ -85,7 +85,12 @@ impl FileInput {
 
     /// What is lexed next, on a later line where this one has no more. `None` exactly where the text is over.
     /// A line that is read gets the character `endline`, if that is 0 to 255. After an `Err` the file is only dropped.
-    pub fn next<C: CatOf>(&mut self, alloc: Global, endline: i32, cats: &C) -> Result<Option<Lexed>, AllocError>
+    pub fn next<C: CatOf>(
+        &mut self,
+        alloc: Global,
+        endline: i32,
+        cats: &C,
+    ) -> Result<Option<Lexed>, AllocError>
         ensures lexed { IfOk result (λ lexed. lexed ≡ (got_of (C.category cats.now) endline self.old).lexed) }
         ensures file { OnOk result (self.new ≡ (got_of (C.category cats.now) endline self.old).file) }
     {

@@ -1,8 +1,10 @@
 //! The stack of what is read.
 ghost use Rattle.std.specs.Prelude.{◌≡◌, ◌∷◌, [], ℕ, length, IfOk, OnOk, OnErr, MatchOption};
-ghost use Rattle.etx_input.specs.Levels.{no_input, with_list, with_file, given_of, line_number};
+ghost use Rattle.etx_input.specs.Gifts.{gift_in, behind_gift, innermost_left};
+ghost use Rattle.etx_input.specs.Levels.{no_input, reading, with_list, with_file, given_of, line_number};
 
 use crate::file::FileInput;
+use crate::gift::Gift;
 use crate::level::{Level, ListInput};
 use crate::origin::Origin;
 use crate::shared::SharedTokens;
@@ -43,6 +45,7 @@ impl Model for Levels {
 
 impl Levels {
     /// Nothing is to be read. Takes no memory.
+    #[tactic(auto, unfolding(crate::specs::Levels::no_input))]
     pub fn new(alloc: Global) -> Levels
         ensures { result ≡ no_input }
     {
@@ -102,18 +105,16 @@ impl Levels {
         self.push_shared(tokens, origin)
     }
 
-    /// Reads one token before all else. After an `Err` the input is what it was.
-    pub fn push_token(
-        &mut self,
-        alloc: Global,
-        token: Token,
-        origin: Origin,
-    ) -> Result<(), AllocError>
+    /// Reads one token before all else. It takes memory only where the stack grows. After an `Err` the input is what
+    /// it was.
+    #[tactic(auto, unfolding(crate::specs::Levels::with_list))]
+    pub fn push_token(&mut self, token: Token, origin: Origin) -> Result<(), AllocError>
         ensures ok { OnOk result (self.new ≡ with_list origin (token ∷ []) self.old) }
         ensures err { OnErr result (self.new ≡ self.old) }
     {
-        let tokens = Tokens::from_slice(alloc, &[token])?;
-        self.push_tokens(alloc, tokens, origin)
+        self.levels
+            .push(Level::List(ListInput::one(token, origin)))?;
+        Ok(())
     }
 
     /// Reads a file before all else. After an `Err` the input is what it was.
@@ -126,32 +127,26 @@ impl Levels {
         Ok(())
     }
 
-    /// Takes a token of a list, which is left with its last one.
-    fn take(&mut self, token: Token, list: ListInput) -> Result<Next, AllocError> {
-        let origin = list.origin();
-        if !list.is_over() {
-            self.levels.push(Level::List(list))?;
+    /// What the innermost level gives. After an `Err` the input is only dropped.
+    fn give<C: CatOf>(&mut self, alloc: Global, endline: i32, cats: &C) -> Result<Gift, AllocError>
+        ensures gift { IfOk result (λ gift. gift ≡ gift_in (C.category cats.now) endline self.old.levels) }
+        ensures input { OnOk result (self.new ≡ reading (behind_gift (C.category cats.now) endline self.old.levels) self.old.left) }
+    {
+        match self.levels.last_mut() {
+            None => Ok(Gift::Stay(Next::Over)),
+            Some(level) => {
+                let gift = level.give(alloc, endline, cats)?;
+                Ok(gift)
+            }
         }
-        Ok(Next::Listed { token, origin })
     }
 
-    /// What a file gives, which is left where it is over.
-    fn read_file<C: CatOf>(
-        &mut self,
-        alloc: Global,
-        mut file: FileInput,
-        endline: i32,
-        cats: &C,
-    ) -> Result<Next, AllocError> {
-        match file.next(alloc, endline, cats)? {
-            None => {
-                self.left = file.number();
-                Ok(Next::FileEnd)
-            }
-            Some(lexed) => {
-                self.levels.push(Level::File(file))?;
-                Ok(Next::Lexed(lexed))
-            }
+    /// Leaves the innermost level.
+    fn leave(&mut self)
+        ensures { self.new ≡ innermost_left self.old.levels self.old.left }
+    {
+        if let Some(Level::File(file)) = self.levels.pop() {
+            self.left = file.number();
         }
     }
 
@@ -167,14 +162,13 @@ impl Levels {
         ensures input { OnOk result (self.new ≡ (given_of (C.category cats.now) endline self.old).input) }
     {
         'levels: loop {
-            match self.levels.pop() {
-                None => return Ok(Next::Over),
-                Some(Level::File(file)) => return self.read_file(alloc, file, endline, cats),
-                Some(Level::List(mut list)) => {
-                    if let Some(token) = list.next() {
-                        return self.take(token, list);
-                    }
+            match self.give(alloc, endline, cats)? {
+                Gift::Stay(next) => return Ok(next),
+                Gift::Leave(next) => {
+                    self.leave();
+                    return Ok(next);
                 }
+                Gift::Empty => self.leave(),
             }
         }
     }

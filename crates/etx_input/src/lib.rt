@@ -5,10 +5,13 @@
 #![tactic(auto)]
 
 mod file;
+mod gift;
 mod level;
 mod levels;
 mod origin;
 mod shared;
+#[cfg(test)]
+mod tests;
 
 pub use file::FileInput;
 pub use level::{Level, ListInput};
