@@ -202,16 +202,27 @@ fn invalid(s: &State) -> Result<Got, AllocError>
     Ok(Got::Over(error_deed(s, text)))
 }
 
+/// A token is a step; a character that is invalid is none.
 #[tactic(auto, unfolding(crate::specs::Getting::lexed_got))]
 fn take_lexed(s: &mut State, lexed: Lexed) -> Result<Got, AllocError>
+    requires { s.old.spent + 1 < 2 ^ 64 }
     ensures now { OnOk result (mouth_of s.new ≡ (lexed_got lexed (mouth_of s.old)).now) }
     ensures got { IfOk result (λ g. g ≡ (lexed_got lexed (mouth_of s.old)).got) }
 {
     match lexed {
-        Lexed::Char { code, cat } => take(s, Token::Char { code, cat }, Origin::Fresh),
-        Lexed::Name(name) => take_name(s, name.as_slice()),
+        Lexed::Char { code, cat } => {
+            s.spent += 1;
+            take(s, Token::Char { code, cat }, Origin::Fresh)
+        }
+        Lexed::Name(name) => {
+            s.spent += 1;
+            take_name(s, name.as_slice())
+        }
         Lexed::Invalid(_) => invalid(s),
-        Lexed::LineEnd => Ok(Got::Over(Turned::Again)),
+        Lexed::LineEnd => {
+            s.spent += 1;
+            Ok(Got::Over(Turned::Again))
+        }
     }
 }
 
@@ -260,10 +271,7 @@ fn take_next(s: &mut State, next: Next) -> Result<Got, AllocError>
             s.spent += charge(origin);
             take(s, token, origin)
         }
-        Next::Lexed(lexed) => {
-            s.spent += 1;
-            take_lexed(s, lexed)
-        }
+        Next::Lexed(lexed) => take_lexed(s, lexed),
         Next::FileEnd => end_file(s),
         Next::Over => Ok(Got::Over(Turned::End(End::Fatal(FatalError::NoLegalEnd)))),
     }
