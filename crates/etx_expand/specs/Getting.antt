@@ -104,15 +104,16 @@ invalid_text = codes "Text line contains an invalid character"
 unfoldable pub name_got : List ℕ → Mouth → Getting
 name_got name m = if has_room name m then token_got (Name (record { f0 = number_of name m })) Fresh (with_name name m) else getting m (got.Over (turned.End (Capacity Names)))
 
+-- a token is a step; a character that is invalid is none
 unfoldable pub lexed_got : Lexed → Mouth → Getting
-lexed_got (lexed.Char code cat) m = token_got (Char code cat) Fresh m
-lexed_got (lexed.Name name) m = name_got name m
+lexed_got (lexed.Char code cat) m = token_got (Char code cat) Fresh (charged 1 m)
+lexed_got (lexed.Name name) m = name_got name (charged 1 m)
 lexed_got (lexed.Invalid code) m = getting m (got.Over (error_deed invalid_text m))
-lexed_got lexed.LineEnd m = getting m (got.Over turned.Again)
+lexed_got lexed.LineEnd m = getting (charged 1 m) (got.Over turned.Again)
 
 abbrev pub next_got : Next → Mouth → Getting
 next_got (next.Listed t origin) m = token_got t origin (charged (charge_of origin) m)
-next_got (next.Lexed x) m = lexed_got x (charged 1 m)
+next_got (next.Lexed x) m = lexed_got x m
 next_got next.FileEnd m = file_ended (watch_of m.scans) m
 next_got next.Over m = getting m (got.Over (turned.End (Fatal NoLegalEnd)))
 

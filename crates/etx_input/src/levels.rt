@@ -145,11 +145,8 @@ impl Levels {
     fn leave(&mut self)
         ensures { self.new ≡ innermost_left self.old.levels self.old.left }
     {
-        if let Some(level) = self.levels.pop() {
-            match level {
-                Level::File(file) => self.left = file.number(),
-                Level::List(_) => {}
-            }
+        if let Some(Level::File(file)) = self.levels.pop() {
+            self.left = file.number();
         }
     }
 

@@ -10,6 +10,8 @@ mod level;
 mod levels;
 mod origin;
 mod shared;
+#[cfg(test)]
+mod tests;
 
 pub use file::FileInput;
 pub use level::{Level, ListInput};
