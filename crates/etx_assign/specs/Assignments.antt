@@ -6,6 +6,7 @@ use Rattle.etx_matter.specs.declared.token.Token.TheVariants.{Char, Name, Param}
 use Rattle.etx_prims.specs.declared.command.Primitive.{Primitive}
 use Rattle.etx_prims.specs.declared.command.Primitive.TheVariants as prims
 use Rattle.etx_prims.specs.declared.parameters.IntParam.TheVariants.{GlobalDefs}
+use Rattle.etx_prims.specs.declared.assignments.DefKind.{DefKind}
 use Rattle.etx_prims.specs.declared.assignments.PrefixKind.{PrefixKind}
 use Rattle.etx_prims.specs.declared.assignments.PrefixKind.TheVariants as prefixes
 use Rattle.etx_state.specs.declared.key.Key.{Key}
@@ -18,6 +19,8 @@ use Rattle.etx_state.specs.States.{int_in, kept_in}
 use Rattle.etx_expand.specs.declared.plan.Push.TheVariants.{Nothing, Text}
 use Rattle.etx_expand.specs.declared.plan.Move.{Move}
 use Rattle.etx_expand.specs.declared.plan.Move.TheVariants.{Used, Back, BackUnder}
+use Rattle.etx_assign.specs.declared.prefix.Behind.{Behind}
+use Rattle.etx_assign.specs.declared.prefix.Behind.TheVariants as behind
 
 -- the values behind an assignment, and what becomes of the token
 pub record Planned : Type 0 where
@@ -126,3 +129,14 @@ is_assignment (prims.HyphenData kind) = true
 is_assignment (prims.Arithmetic kind) = true
 is_assignment (prims.Interaction kind) = true
 is_assignment _ = false
+
+-- the definition that a command is, if it is one
+unfoldable pub definition_of : Primitive → Option DefKind
+definition_of (prims.Def kind) = Some kind
+definition_of _ = None
+
+-- what a command is to the prefixes before it: \relax is skipped, and a prefix is one more
+unfoldable pub follower_of : Primitive → Behind
+follower_of prims.Relax = behind.Nothing
+follower_of (prims.Prefix kind) = behind.Prefix kind
+follower_of _ = behind.Command

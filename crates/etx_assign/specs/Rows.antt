@@ -35,9 +35,11 @@ use Rattle.etx_expand.specs.declared.row.Brace.{Brace}
 use Rattle.etx_expand.specs.declared.row.Brace.TheVariants.{Left, Right, Neither}
 use Rattle.etx_expand.specs.Turn.{is_blank, has_category, brace_of, failure_into, failure_under}
 use Rattle.etx_expand.specs.Printing.{printed, escape_in, shown_name}
+use Rattle.etx_assign.specs.declared.prefix.Behind.{Behind}
+use Rattle.etx_assign.specs.declared.prefix.Behind.TheVariants as behind
 use Rattle.etx_assign.specs.declared.naming.Target.{Target}
 use Rattle.etx_assign.specs.declared.naming.Target.TheVariants.{Blank, Given, Missing}
-use Rattle.etx_assign.specs.Assignments.{Planned, planned, key_of, assigned, is_global_in, is_global_def_in, over, over_if, without_kept, with_prefix, is_for_definitions, is_assignment}
+use Rattle.etx_assign.specs.Assignments.{Planned, planned, key_of, assigned, is_global_in, is_global_def_in, over, over_if, without_kept, with_prefix, is_for_definitions, is_assignment, definition_of, follower_of}
 
 -- ---- prefixes, and the beginning of an assignment
 
@@ -100,10 +102,13 @@ irrelevant what p = Fails (record { text = prefix_text what; scan = left_prefixe
 abbrev pub other_begun : Primitive → Prefixes → Values → Move
 other_begun primitive p v = if is_for_definitions p then irrelevant (shown_primitive v primitive) p else simple_begun primitive (is_global_in v p.is_global)
 
+abbrev pub begun_by : Option DefKind → Primitive → Prefixes → Values → Move
+begun_by (Some kind) primitive p v = def_begun kind p v
+begun_by None primitive p v = other_begun primitive p v
+
 -- what an assignment begins, behind these prefixes
 unfoldable pub assignment_begun : Primitive → Prefixes → Values → Move
-assignment_begun (prims.Def kind) p v = def_begun kind p v
-assignment_begun primitive p v = other_begun primitive p v
+assignment_begun primitive p v = begun_by (definition_of primitive) primitive p v
 
 -- what takes no prefix is read again, behind an error
 abbrev pub prefix_refused : List ℕ → Move
@@ -112,11 +117,14 @@ prefix_refused what = failure_under (prefix_text what) []
 abbrev pub prefixed_by : Prefixes → Primitive → Values → Move
 prefixed_by p primitive v = if is_assignment primitive then assignment_begun primitive p v else prefix_refused (shown_primitive v primitive)
 
--- a command behind prefixes: \relax is skipped, and a prefix is one more
-unfoldable pub command_behind_prefixes : Prefixes → Primitive → Values → Move
-command_behind_prefixes p prims.Relax v = Stay (scan.Prefix p) Nothing
-command_behind_prefixes p (prims.Prefix kind) v = Stay (scan.Prefix (with_prefix kind p)) Nothing
-command_behind_prefixes p primitive v = prefixed_by p primitive v
+abbrev pub behind_by : Behind → Prefixes → Primitive → Values → Move
+behind_by behind.Nothing p primitive v = Stay (scan.Prefix p) Nothing
+behind_by (behind.Prefix kind) p primitive v = Stay (scan.Prefix (with_prefix kind p)) Nothing
+behind_by behind.Command p primitive v = prefixed_by p primitive v
+
+-- a command behind prefixes
+abbrev pub command_behind_prefixes : Prefixes → Primitive → Values → Move
+command_behind_prefixes p primitive v = behind_by (follower_of primitive) p primitive v
 
 abbrev pub character_behind_prefixes : Prefixes → ℕ → ℕ → Values → Move
 character_behind_prefixes p code cat v = if cat == 10 then Stay (scan.Prefix p) Nothing else prefix_refused (shown_character v code cat)
@@ -388,12 +396,12 @@ second_by is_global code first (Some digit) mm v = planned v (two_digits is_glob
 unfoldable pub second_digit_row : Bool → ℕ → ℕ → Token → Meaning → Values → Planned
 second_digit_row is_global code first t mm v = second_by is_global code first (digit_of t) mm v
 
-abbrev pub behind_by : Bool → ℕ → ℕ → Option ℕ → Meaning → Values → Planned
-behind_by is_global code category None mm v = category_over is_global code category mm v
-behind_by is_global code category (Some digit) mm v = planned v (Ends Unbuilt)
+abbrev pub behind_digits_by : Bool → ℕ → ℕ → Option ℕ → Meaning → Values → Planned
+behind_digits_by is_global code category None mm v = category_over is_global code category mm v
+behind_digits_by is_global code category (Some digit) mm v = planned v (Ends Unbuilt)
 
 unfoldable pub behind_digits_row : Bool → ℕ → ℕ → Token → Meaning → Values → Planned
-behind_digits_row is_global code category t mm v = behind_by is_global code category (digit_of t) mm v
+behind_digits_row is_global code category t mm v = behind_digits_by is_global code category (digit_of t) mm v
 
 -- ---- a line for each scan of an assignment
 

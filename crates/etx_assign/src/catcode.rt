@@ -39,6 +39,7 @@ pub(crate) fn quote(is_global: bool, token: Token) -> Move
 }
 
 /// The character that is a whole text.
+#[tactic(auto, unfolding(crate::specs::Rows::only_code))]
 fn only_code(text: &[u8]) -> Option<u8>
     ensures { result ≡ only_code text.now }
 {

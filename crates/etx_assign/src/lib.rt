@@ -18,3 +18,6 @@ mod turns;
 
 pub use prefix::{begin, is_assignment, no_prefixes, with_prefix};
 pub use turns::go;
+
+#[cfg(test)]
+mod tests;

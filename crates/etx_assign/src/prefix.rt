@@ -2,7 +2,7 @@
 ghost use Rattle.std.specs.Prelude.{◌≡◌, IfOk};
 ghost use Rattle.etx_state.specs.States.{mouth_of};
 ghost use Rattle.etx_expand.specs.Printing.{shown_name};
-ghost use Rattle.etx_assign.specs.Assignments.{no_prefixes, with_prefix, is_for_definitions, is_assignment};
+ghost use Rattle.etx_assign.specs.Assignments.{no_prefixes, with_prefix, is_for_definitions, is_assignment, definition_of, follower_of};
 ghost use Rattle.etx_assign.specs.Rows.{prefix_text, character_words, shown_primitive, shown_character, named_begun, def_begun, let_begun, code_begun, simple_begun, left_prefixes, irrelevant, other_begun, assignment_begun, prefix_refused, prefixed_by, command_behind_prefixes, character_behind_prefixes, prefix_row};
 
 use crate::assignment::{is_global, is_global_def};
@@ -13,6 +13,17 @@ use etx_matter::{End, Token};
 use etx_prims::{CodeKind, DefKind, LetKind, PrefixKind, Primitive, name_of};
 use etx_state::{Meaning, Prefixes, Scan, State};
 use std::alloc::AllocError;
+
+/// What a command is to the prefixes before it.
+#[derive(Clone, Copy, Debug, PartialEq, Eq)]
+pub(crate) enum Behind {
+    /// `\relax`, which is skipped.
+    Nothing,
+    /// One prefix more.
+    Prefix(PrefixKind),
+    /// What they are for, if it takes them.
+    Command,
+}
 
 /// No prefix.
 pub fn no_prefixes() -> Prefixes
@@ -63,34 +74,34 @@ pub fn is_assignment(primitive: Primitive) -> bool
     ensures { result ≡ is_assignment primitive }
 {
     match primitive {
-        Primitive::IntParam(_)
-        | Primitive::DimenParam(_)
-        | Primitive::GlueParam(_)
-        | Primitive::MuGlueParam(_)
-        | Primitive::TokenParam(_)
-        | Primitive::Register(_)
-        | Primitive::Code(_)
-        | Primitive::FontDimen
-        | Primitive::FontInt(_)
-        | Primitive::FamilyFont(_)
-        | Primitive::Font
-        | Primitive::NullFont
-        | Primitive::ParShape
-        | Primitive::BoxDimen(_)
-        | Primitive::Aux(_)
-        | Primitive::PrevGraf
-        | Primitive::PageInt(_)
-        | Primitive::PageDimen(_)
-        | Primitive::InteractionMode
-        | Primitive::Def(_)
-        | Primitive::Let(_)
-        | Primitive::CharDef(_)
-        | Primitive::RegisterDef(_)
-        | Primitive::Read(_)
-        | Primitive::SetBox
-        | Primitive::HyphenData(_)
-        | Primitive::Arithmetic(_)
-        | Primitive::Interaction(_) => true,
+        Primitive::IntParam(_) => true,
+        Primitive::DimenParam(_) => true,
+        Primitive::GlueParam(_) => true,
+        Primitive::MuGlueParam(_) => true,
+        Primitive::TokenParam(_) => true,
+        Primitive::Register(_) => true,
+        Primitive::Code(_) => true,
+        Primitive::FontDimen => true,
+        Primitive::FontInt(_) => true,
+        Primitive::FamilyFont(_) => true,
+        Primitive::Font => true,
+        Primitive::NullFont => true,
+        Primitive::ParShape => true,
+        Primitive::BoxDimen(_) => true,
+        Primitive::Aux(_) => true,
+        Primitive::PrevGraf => true,
+        Primitive::PageInt(_) => true,
+        Primitive::PageDimen(_) => true,
+        Primitive::InteractionMode => true,
+        Primitive::Def(_) => true,
+        Primitive::Let(_) => true,
+        Primitive::CharDef(_) => true,
+        Primitive::RegisterDef(_) => true,
+        Primitive::Read(_) => true,
+        Primitive::SetBox => true,
+        Primitive::HyphenData(_) => true,
+        Primitive::Arithmetic(_) => true,
+        Primitive::Interaction(_) => true,
         _ => false,
     }
 }
@@ -269,14 +280,25 @@ fn begin_other(
     }
 }
 
+/// The definition that a command is, if it is one.
+#[tactic(auto, unfolding(crate::specs::Assignments::definition_of))]
+fn definition(primitive: Primitive) -> Option<DefKind>
+    ensures { result ≡ definition_of primitive }
+{
+    match primitive {
+        Primitive::Def(kind) => Some(kind),
+        _ => None,
+    }
+}
+
 /// What an assignment begins, behind these prefixes. Of the assignments that are to come it ends the job.
 #[tactic(auto, unfolding(crate::specs::Rows::assignment_begun))]
 pub fn begin(s: &State, primitive: Primitive, prefixes: Prefixes) -> Result<Move, AllocError>
     ensures { IfOk result (λ go. go ≡ assignment_begun primitive prefixes (mouth_of s.now).values) }
 {
-    match primitive {
-        Primitive::Def(kind) => Ok(begin_definition(s, kind, prefixes)),
-        _ => begin_other(s, primitive, prefixes),
+    match definition(primitive) {
+        Some(kind) => Ok(begin_definition(s, kind, prefixes)),
+        None => begin_other(s, primitive, prefixes),
     }
 }
 
@@ -296,8 +318,19 @@ fn begin_prefixed(
     }
 }
 
+/// What a command is to the prefixes before it.
+#[tactic(auto, unfolding(crate::specs::Assignments::follower_of))]
+fn follower(primitive: Primitive) -> Behind
+    ensures { result ≡ follower_of primitive }
+{
+    match primitive {
+        Primitive::Relax => Behind::Nothing,
+        Primitive::Prefix(kind) => Behind::Prefix(kind),
+        _ => Behind::Command,
+    }
+}
+
 /// A command behind prefixes.
-#[tactic(auto, unfolding(crate::specs::Rows::command_behind_prefixes))]
 fn command_behind_prefixes(
     s: &State,
     prefixes: Prefixes,
@@ -305,13 +338,13 @@ fn command_behind_prefixes(
 ) -> Result<Move, AllocError>
     ensures { IfOk result (λ go. go ≡ command_behind_prefixes prefixes primitive (mouth_of s.now).values) }
 {
-    match primitive {
-        Primitive::Relax => Ok(Move::Stay(Scan::Prefix(prefixes), Push::Nothing)),
-        Primitive::Prefix(kind) => Ok(Move::Stay(
+    match follower(primitive) {
+        Behind::Nothing => Ok(Move::Stay(Scan::Prefix(prefixes), Push::Nothing)),
+        Behind::Prefix(kind) => Ok(Move::Stay(
             Scan::Prefix(with_prefix(kind, prefixes)),
             Push::Nothing,
         )),
-        _ => begin_prefixed(s, prefixes, primitive),
+        Behind::Command => begin_prefixed(s, prefixes, primitive),
     }
 }
 
