@@ -1,10 +1,12 @@
 //! Tests of the calls. The helpers have no contracts, so that each test is short to prove.
 use super::*;
-use etx_input::{Next, Origin};
+use etx_input::{FileInput, Next, Origin, SharedTokens};
+use etx_lexer::Lexed;
 use etx_lists::Bytes;
-use etx_matter::{Job, NameId, PAR, Token};
+use etx_macros::Pattern;
+use etx_matter::{Job, NameId, PAR, Token, Tokens};
 use etx_prims::{IntParam, Primitive};
-use etx_state::{Capacity, GroupKind, Key, Limit, Meaning, State, Val};
+use etx_state::{Capacity, Entry, GroupKind, Key, Limit, Macro, Meaning, Scan, State, Val};
 use std::alloc::{AllocError, Global};
 use std::test::Fail;
 
@@ -49,10 +51,12 @@ fn notes(s: &mut State, parameter: u8) -> bool {
 /// Whether this parameter is read next, as a fresh token.
 fn reads(s: &mut State, parameter: u8) -> bool {
     match s.next() {
-        Ok(Next::Listed {
-            token: Token::Param(n),
-            origin: Origin::Fresh,
-        }) => n == parameter,
+        Ok(
+            Next::Listed {
+                token: Token::Param(n),
+                origin: Origin::Fresh,
+            },
+        ) => n == parameter,
         _ => false,
     }
 }
@@ -150,5 +154,95 @@ fn a_change_in_place_stays_in_its_group(rt: HostRuntime) -> Result<(), Fail> {
     s.set(Key::Int(IntParam::Mag), Val::Int(5))?;
     assert!(rt; closes(&mut s).is_some());
     assert_eq!(rt; values(&s), (1, 5));
+    Ok(())
+}
+
+fn body(alloc: Global) -> Result<SharedTokens, AllocError> {
+    SharedTokens::new(alloc, Tokens::from_slice(alloc, &[Token::Param(1)])?)
+}
+
+fn pattern(alloc: Global) -> Option<Pattern> {
+    Pattern::read(alloc, &Tokens::new(alloc)).ok()
+}
+
+/// Gives the active character 126 a long macro as its meaning.
+fn defines(alloc: Global, s: &mut State) -> Result<bool, AllocError> {
+    match pattern(alloc) {
+        None => Ok(false),
+        Some(pattern) => {
+            let definition = Macro::new(alloc, pattern, body(alloc)?, true, false, false)?;
+            assign(s, Key::Active(126), Val::Means(Meaning::Macro(definition)))?;
+            Ok(true)
+        }
+    }
+}
+
+/// Whether the token means the macro that `defines` makes.
+fn means_it(s: &State, token: Token) -> bool {
+    match s.meaning_of(token) {
+        Ok(Meaning::Macro(it)) => {
+            it.is_long() && !it.is_outer() && it.body().as_slice() == [Token::Param(1)].as_slice()
+        }
+        _ => false,
+    }
+}
+
+fn is_undefined(s: &State, token: Token) -> bool {
+    matches!(s.meaning_of(token), Ok(Meaning::Undefined))
+}
+
+#[test]
+fn an_active_character_means_a_macro_up_to_the_end_of_the_group(
+    rt: HostRuntime,
+) -> Result<(), Fail> {
+    let mut s = opened(rt.alloc())?;
+    let tie = Token::Char { code: 126, cat: 13 };
+    assert!(rt; is_undefined(&s, tie) && opens(&mut s, GroupKind::Simple));
+    assert!(rt; defines(rt.alloc(), &mut s)?);
+    assert!(rt; means_it(&s, tie));
+    assert!(rt;
+        matches!(
+            s.meaning_of(Token::Char { code: 126, cat: 12 }),
+            Ok(Meaning::Char { code: 126, cat: 12 })
+        )
+    );
+    assert!(rt; closes(&mut s).is_some() && is_undefined(&s, tie));
+    Ok(())
+}
+
+/// Reads a file of these bytes.
+fn reads_file(alloc: Global, s: &mut State, bytes: &[u8]) -> Result<(), AllocError> {
+    let file = FileInput::new(alloc, Bytes::from_slice(alloc, bytes)?)?;
+    s.input.push_file(file)
+}
+
+/// Whether this character is lexed next.
+fn lexes(s: &mut State, character: u8, category: u8) -> bool {
+    match s.next() {
+        Ok(Next::Lexed(Lexed::Char { code, cat })) => code == character && cat == category,
+        _ => false,
+    }
+}
+
+#[test]
+fn a_category_holds_from_the_next_character_on(rt: HostRuntime) -> Result<(), Fail> {
+    let mut s = opened(rt.alloc())?;
+    reads_file(rt.alloc(), &mut s, b"@@")?;
+    assert!(rt; lexes(&mut s, 64, 12) && makes_at_a_letter(&mut s) && lexes(&mut s, 64, 11));
+    assert!(rt; lexes(&mut s, 32, 10) && matches!(s.next(), Ok(Next::FileEnd)));
+    assert!(rt; matches!(s.next(), Ok(Next::Over)));
+    Ok(())
+}
+
+#[test]
+fn scans_come_off_the_last_first(rt: HostRuntime) -> Result<(), Fail> {
+    let mut s = opened(rt.alloc())?;
+    assert!(rt; s.at_rest());
+    s.scans.push(Entry::Scan(Scan::Message))?;
+    s.scans.push(Entry::PutBack(Token::Param(3)))?;
+    assert!(rt; !s.at_rest() && s.scans.len() == 2);
+    assert!(rt; matches!(s.scans.pop(), Some(Entry::PutBack(Token::Param(3)))));
+    assert!(rt; matches!(s.scans.pop(), Some(Entry::Scan(Scan::Message))));
+    assert!(rt; s.scans.pop().is_none());
     Ok(())
 }

@@ -89,7 +89,7 @@ pub apart_empty : {K : Type 0} (view : K → List ℕ) (ks : List K) → length 
 apart_empty view [] h = apart_none
 apart_empty view (k ∷ ks) h = absurd (omega arith)
 
-length_mapped : {K : Type 0} (view : K → List ℕ) (ks : List K) → length (map view ks) ≡ length ks
+pub length_mapped : {K : Type 0} (view : K → List ℕ) (ks : List K) → length (map view ks) ≡ length ks
 length_mapped view [] = refl
 length_mapped view (k ∷ ks) = ap suc (length_mapped view ks)
 
@@ -148,6 +148,14 @@ any_within : {K : Type 0} (p : K → Bool) (ks : List K) → position_or_len p k
 any_within p [] h = absurd (omega arith)
 any_within p (k ∷ ks) h = any_by p (p k) k ks refl (any_within p ks) h
 
+place_le_by : {K : Type 0} (p : K → Bool) (b : Bool) (k : K) (ks : List K) → position_or_len p ks ≤ length ks → cond (not b) (1 + position_or_len p ks) 0 ≤ suc (length ks)
+place_le_by p true k ks rest = omega arith
+place_le_by p false k ks rest = omega arith
+
+place_le : {K : Type 0} (p : K → Bool) (ks : List K) → position_or_len p ks ≤ length ks
+place_le p [] = omega arith
+place_le p (k ∷ ks) = place_le_by p (p k) k ks (place_le p ks)
+
 module _ {K : Type 0} (view : K → List ℕ) (name : List ℕ) (ks : List K) where
   pub known_some : (i : ℕ) → position (λ k. pointwise nat_eq name (view k)) ks ≡ Some i → has_name (map view ks) name ≡ true
   known_some i e =
@@ -162,9 +170,14 @@ module _ {K : Type 0} (view : K → List ℕ) (name : List ℕ) (ks : List K) wh
   pub place_below : (most i : ℕ) → position (λ k. pointwise nat_eq name (view k)) ks ≡ Some i → length ks ≤ most → i < most
   place_below most i e h = grind (arith, common_steps)
 
+  past_none : position (λ k. pointwise nat_eq name (view k)) ks ≡ None → length ks ≤ position_or_len (λ k. pointwise nat_eq name (view k)) ks
+  past_none e = grind (arith, common_steps)
+
   pub place_none : position (λ k. pointwise nat_eq name (view k)) ks ≡ None → place_of (map view ks) name ≡ length (map view ks)
   place_none e =
-      let past : position_or_len (λ k. pointwise nat_eq name (view k)) ks ≡ length ks = grind (arith, common_steps) in
+      let least = past_none e in
+      let most = place_le (λ k. pointwise nat_eq name (view k)) ks in
+      let past : position_or_len (λ k. pointwise nat_eq name (view k)) ks ≡ length ks = omega arith in
       sym (place_mapped view name ks) ∙ past ∙ sym (length_mapped view ks)
 
 any_false : (names : List (List ℕ)) (name : List ℕ) (sound : (other : List ℕ) → pointwise nat_eq name other ≡ true → other ≡ name) → IsFresh names name → list_any (pointwise nat_eq name) names ≡ false

@@ -32,11 +32,12 @@ impl Model for Macro {
     ghost Value = { MacroState };
 
     ghost view = { λ it. let text = arc_value it.text in record {
-        parts = text.pattern.parts;
-        body = text.body;
-        is_long = text.is_long;
-        is_outer = text.is_outer;
-        is_protected = text.is_protected } };
+      parts = text.pattern.parts;
+      body = text.body;
+      is_long = text.is_long;
+      is_outer = text.is_outer;
+      is_protected = text.is_protected;
+    } };
 }
 
 impl Macro {
@@ -50,7 +51,12 @@ impl Macro {
         is_protected: bool,
     ) -> Result<Macro, AllocError>
         ensures { IfOk result (λ it. it ≡ record {
-            parts = pattern.parts; body = body; is_long = is_long; is_outer = is_outer; is_protected = is_protected }) }
+          parts = pattern.parts;
+          body = body;
+          is_long = is_long;
+          is_outer = is_outer;
+          is_protected = is_protected;
+        }) }
     {
         Ok(Macro {
             text: Arc::new(

@@ -1,5 +1,8 @@
 //! The values that INITEX starts with.
 ghost use Rattle.std.specs.Prelude.{◌≡◌, None, pos};
+ghost use Rattle.etx_prims.specs.declared.command.Primitive.TheVariants as prims;
+ghost use Rattle.etx_state.specs.declared.key.Meaning.TheVariants as meanings;
+ghost use Rattle.etx_state.specs.declared.key.Val.TheVariants as vals;
 ghost use Rattle.etx_state.specs.Initial.{first_category, first_int, first_of};
 
 use crate::key::{Key, Meaning, Val};
@@ -31,28 +34,28 @@ pub struct Firsts {
     par: Val,
     undefined: Val,
     no_token: Val,
-    ghost right: { (escape ≡ Val.Category 0)
-        × (end_of_line ≡ Val.Category 5)
-        × (ignored ≡ Val.Category 9)
-        × (space ≡ Val.Category 10)
-        × (letter ≡ Val.Category 11)
-        × (other ≡ Val.Category 12)
-        × (comment ≡ Val.Category 14)
-        × (invalid ≡ Val.Category 15)
-        × (zero ≡ Val.Int (pos 0))
-        × (one ≡ Val.Int (pos 1))
-        × (fourth ≡ Val.Int (pos 4))
-        × (july ≡ Val.Int (pos 7))
-        × (return_code ≡ Val.Int (pos 13))
-        × (twenty_five ≡ Val.Int (pos 25))
-        × (backslash ≡ Val.Int (pos 92))
-        × (noon ≡ Val.Int (pos 720))
-        × (thousand ≡ Val.Int (pos 1000))
-        × (year ≡ Val.Int (pos 1776))
-        × (ten_thousand ≡ Val.Int (pos 10000))
-        × (par ≡ Val.Means (Meaning.Primitive Primitive.Par))
-        × (undefined ≡ Val.Means Meaning.Undefined)
-        × (no_token ≡ Val.Kept None) },
+    ghost right: { (escape ≡ vals.Category 0)
+        × (end_of_line ≡ vals.Category 5)
+        × (ignored ≡ vals.Category 9)
+        × (space ≡ vals.Category 10)
+        × (letter ≡ vals.Category 11)
+        × (other ≡ vals.Category 12)
+        × (comment ≡ vals.Category 14)
+        × (invalid ≡ vals.Category 15)
+        × (zero ≡ vals.Int (pos 0))
+        × (one ≡ vals.Int (pos 1))
+        × (fourth ≡ vals.Int (pos 4))
+        × (july ≡ vals.Int (pos 7))
+        × (return_code ≡ vals.Int (pos 13))
+        × (twenty_five ≡ vals.Int (pos 25))
+        × (backslash ≡ vals.Int (pos 92))
+        × (noon ≡ vals.Int (pos 720))
+        × (thousand ≡ vals.Int (pos 1000))
+        × (year ≡ vals.Int (pos 1776))
+        × (ten_thousand ≡ vals.Int (pos 10000))
+        × (par ≡ vals.Means (meanings.Primitive prims.Par))
+        × (undefined ≡ vals.Means meanings.Undefined)
+        × (no_token ≡ vals.Kept None) },
 }
 
 impl Firsts {

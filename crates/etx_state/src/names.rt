@@ -52,6 +52,7 @@ impl Names {
         ensures known { MatchOption result (has_name self.now name.now ≡ false) (λ _. has_name self.now name.now ≡ true) }
         ensures place { MatchOption result (place_of self.now name.now ≡ length self.now) (λ number. place_of self.now name.now ≡ number.0) }
         ensures small { IfSome result (λ number. number.0 < 1048576) }
+        ensures most { length self.now ≤ 1048576 }
         ensures apart { IsApart self.now }
     {
         match self.texts.get_index_of(name) {

@@ -61,11 +61,7 @@ pub fn sizes(store: &Store<Slot, Content>) -> Sizes
 }
 
 #[tactic(auto, unfolding(crate::specs::Saves::here))]
-pub fn cell(
-    store: &Store<Slot, Content>,
-    firsts: &Firsts,
-    key: Key,
-) -> Result<Cell, AllocError>
+pub fn cell(store: &Store<Slot, Content>, firsts: &Firsts, key: Key) -> Result<Cell, AllocError>
     ensures { IfOk result (λ cell. cell ≡ cells_of store.now key) }
 {
     match store.get(&Slot::At(key)) {

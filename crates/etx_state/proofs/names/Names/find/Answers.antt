@@ -1,6 +1,6 @@
 use Rattle.std.proofs.Common.{◌≡◌, ◌<◌, ◌≤◌, sym, nat_eq, length, arith, subst, ℕ, List, map}
 use Rattle.std.specs.Cmp.Lexicographic.{pointwise, bytes_decides}
-use Rattle.etx_state.proofs.Naming.{found, fresh, known_some, place_some, place_none, place_below, unknown_fresh}
+use Rattle.etx_state.proofs.Naming.{found, fresh, known_some, place_some, place_none, place_below, unknown_fresh, length_mapped}
 use Rattle.etx_state.proofs.names.Names.find.Goals as goal
 
 pub returns-in-Some-clause-found : goal.returns-in-Some-clause-found
@@ -27,3 +27,9 @@ returns-in-None-clause-place c = rw (← c.self.view_is) (place_none (λ k. k.it
 
 pub returns-in-Some-clause-small : goal.returns-in-Some-clause-small
 returns-in-Some-clause-small c = place_below (λ k. k.items) c.args.name.now c.self.inside.texts.keys 1048576 _ (sym c.in-Some.ensures.index) c.self.invariant.0
+
+pub returns-in-Some-clause-most : goal.returns-in-Some-clause-most
+returns-in-Some-clause-most c = rw (← c.self.view_is) (rw (length_mapped (λ k. k.items) c.self.inside.texts.keys) c.self.invariant.0)
+
+pub returns-in-None-clause-most : goal.returns-in-None-clause-most
+returns-in-None-clause-most c = rw (← c.self.view_is) (rw (length_mapped (λ k. k.items) c.self.inside.texts.keys) c.self.invariant.0)
