@@ -6,6 +6,7 @@ use Rattle.etx_matter.specs.declared.end.End.TheVariants.{Capacity}
 use Rattle.etx_matter.specs.declared.end.Limit.TheVariants.{Names}
 use Rattle.etx_lexer.specs.declared.lexed.Lexed.{Lexed}
 use Rattle.etx_lexer.specs.declared.lexed.Lexed.TheVariants as lexed
+use Rattle.etx_input.specs.Levels.{InputState}
 use Rattle.etx_input.specs.declared.origin.Origin.{Origin}
 use Rattle.etx_input.specs.declared.origin.Origin.TheVariants.{Fresh, Back, Unexpanded}
 use Rattle.etx_input.specs.declared.levels.Next.{Next}
@@ -67,10 +68,10 @@ name_stays name m = by (has_room name m)
     known : Stays m (with_name name m)
     known = with_name_stays name m
 
-    taken : Stays (with_name name m) (token_got (Name (record { f0 = number_of name m })) Fresh (with_name name m)).now
-    taken = token_stays (Name (record { f0 = number_of name m })) Fresh (with_name name m)
+    taken : Stays (with_name name m) (token_got (Name (record { 0 = number_of name m })) Fresh (with_name name m)).now
+    taken = token_stays (Name (record { 0 = number_of name m })) Fresh (with_name name m)
 
-    by : (b : Bool) → Stays m (if b then token_got (Name (record { f0 = number_of name m })) Fresh (with_name name m) else getting m (got.Over (turned.End (Capacity Names)))).now
+    by : (b : Bool) → Stays m (if b then token_got (Name (record { 0 = number_of name m })) Fresh (with_name name m) else getting m (got.Over (turned.End (Capacity Names)))).now
     by true = record { scans = cc (known, taken); spent = cc (known, taken) }
     by false = record { scans = refl; spent = refl }
 
@@ -100,20 +101,22 @@ lexed_charges (lexed.Name name) m =
 lexed_charges (lexed.Invalid code) m = record { scans = refl; spent = omega arith }
 lexed_charges lexed.LineEnd m = record { scans = refl; spent = omega arith }
 
-next_charges : (x : Next) (m : Mouth) → Charges m (next_got x m).now
-next_charges (next.Listed t o) m =
-    let h = token_stays t o (charged (charge_of o) m) in
+next_charges : (x : Next) (i : InputState) (m : Mouth) → Charges m (next_got x (with_input i m)).now
+next_charges (next.Listed t o) i m =
+    let h = token_stays t o (charged (charge_of o) (with_input i m)) in
     let k = charge_small o in
     record { scans = h.scans; spent = omega (arith, h.spent, k) }
-next_charges (next.Lexed x) m = lexed_charges x m
-next_charges next.FileEnd m =
-    let h = ended_stays (watch_of m.scans) m in
+next_charges (next.Lexed x) i m =
+    let h = lexed_charges x (with_input i m) in
+    record { scans = h.scans; spent = h.spent }
+next_charges next.FileEnd i m =
+    let h = ended_stays (watch_of m.scans) (with_input i m) in
     record { scans = h.scans; spent = omega (arith, h.spent) }
-next_charges next.Over m = record { scans = refl; spent = omega arith }
+next_charges next.Over i m = record { scans = refl; spent = omega arith }
 
 pub got_charges : (m : Mouth) → Charges m (got_of m).now
 unfolding got_of
-got_charges m = next_charges (given m).next (with_input (given m).input m)
+got_charges m = next_charges (given m).next (given m).input m
 
 -- the same of a mouth that is equal
 pub got_charges_to : (old new : Mouth) → new ≡ (got_of old).now → Charges old new

@@ -68,7 +68,8 @@ fn watch_at(entry: &Entry) -> Option<Watch>
 }
 
 /// What the scans in progress say of outer control sequences: the innermost that says something decides.
-fn watch(scans: &Scans) -> Watch
+#[tactic(auto, using(crate::proofs::Watching::watch_next), unfolding(crate::specs::Getting::watch_of))]
+fn find_watch(scans: &Scans) -> Watch
     ensures { result ≡ watch_of scans.now }
 {
     for i in 0..scans.len() {
@@ -145,7 +146,7 @@ fn admit(s: &mut State, token: Token, meaning: Meaning) -> Result<Got, AllocErro
     if !is_outer(&meaning) {
         return Ok(Got::Token { token, meaning });
     }
-    let watch = watch(&s.scans);
+    let watch = find_watch(&s.scans);
     match watch {
         Watch::Nothing => Ok(Got::Token { token, meaning }),
         Watch::Defining(_) => forbid(s, watch, token),
@@ -231,7 +232,7 @@ fn end_file(s: &mut State) -> Result<Got, AllocError>
     ensures now { OnOk result (mouth_of s.new ≡ (file_ended (watch_of (mouth_of s.old).scans) (mouth_of s.old)).now) }
     ensures got { IfOk result (λ g. g ≡ (file_ended (watch_of (mouth_of s.old).scans) (mouth_of s.old)).got) }
 {
-    let watch = watch(&s.scans);
+    let watch = find_watch(&s.scans);
     match watch {
         Watch::Nothing => Ok(Got::Over(Turned::Again)),
         Watch::Defining(_) => cut_short(s, watch),

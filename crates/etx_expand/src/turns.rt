@@ -6,7 +6,7 @@ ghost use Rattle.etx_expand.specs.Moves.{moved, entered, put_back};
 ghost use Rattle.etx_expand.specs.Turn.{relaxed, name_made, name_end_turn, cs_name_turn, text_goes_on, text_turn, string_turn, text_brace_row, handed, scan_turn, expand_under, kept_turn, say_turn, top_of, turn_of, wanted, begun, ready};
 
 use crate::get::{Got, get};
-use crate::meaning::{Reading, is_expandable, is_expanded_by, reading};
+use crate::meaning::{Reading, is_expandable, is_expanded_by, reading_of};
 use crate::moves::{enter, make, put_back};
 use crate::plan::{Move, Push, Turned, Value, Want};
 use crate::printing::{character_tokens, spell};
@@ -34,13 +34,13 @@ enum Top {
     Due,
 }
 
-fn top(scans: &Scans) -> Top
+fn find_top(scans: &Scans) -> Top
     ensures { result ≡ top_of scans.now }
 {
     match scans.at(0) {
         None => Top::Nothing,
         Some(entry) => match entry {
-            Entry::Scan(scan) => Top::Scan(reading(scan)),
+            Entry::Scan(scan) => Top::Scan(reading_of(scan)),
             Entry::Kept { .. } => Top::Kept,
             Entry::PutBack(_) => Top::Due,
             Entry::Say { .. } => Top::Due,
@@ -434,7 +434,7 @@ pub fn turn(s: &mut State) -> Result<Turned, AllocError>
     ensures now { OnOk result (mouth_of s.new ≡ (turn_of (mouth_of s.old)).now) }
     ensures turned { IfOk result (λ t. t ≡ (turn_of (mouth_of s.old)).turned) }
 {
-    match top(&s.scans) {
+    match find_top(&s.scans) {
         Top::Nothing => Ok(Turned::Again),
         Top::Scan(by) => scan(s, by),
         Top::Kept => keep(s),
