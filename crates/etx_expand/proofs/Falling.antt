@@ -121,7 +121,7 @@ name_goes name old m more = by (has_room name m)
     known : Stays m (with_name name m)
     known = with_name_stays name m
 
-    by : (b : Bool) → GoesGot (if b then token_got (Name (record { 0 = number_of name m })) Fresh (with_name name m) else getting m (got.Over (turned.End (Capacity Names)))).got old (if b then token_got (Name (record { f0 = number_of name m })) Fresh (with_name name m) else getting m (got.Over (turned.End (Capacity Names)))).now
+    by : (b : Bool) → GoesGot (if b then token_got (Name (record { 0 = number_of name m })) Fresh (with_name name m) else getting m (got.Over (turned.End (Capacity Names)))).got old (if b then token_got (Name (record { 0 = number_of name m })) Fresh (with_name name m) else getting m (got.Over (turned.End (Capacity Names)))).now
     by true = token_goes (Name (record { 0 = number_of name m })) Fresh old (with_name name m) (inl (omega (arith, known.spent, more)))
     by false = tt
 

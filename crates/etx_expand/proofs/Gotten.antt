@@ -13,16 +13,18 @@ use Rattle.etx_input.specs.declared.levels.Next.{Next}
 use Rattle.etx_input.specs.declared.levels.Next.TheVariants as next
 use Rattle.etx_prims.specs.declared.command.Primitive.{Primitive}
 use Rattle.etx_state.specs.declared.key.Meaning.{Meaning}
+use Rattle.etx_state.specs.declared.key.Meaning.TheVariants as means
 use Rattle.etx_state.specs.States.{Mouth, named, with_name, number_of, has_room, with_input, given}
 use Rattle.etx_prims.specs.Lookup.{primitive_named}
 use Rattle.etx_state.specs.Naming.{has_name}
-use Rattle.etx_state.specs.Reading.{token_meaning}
+use Rattle.etx_state.specs.Reading.{token_meaning, meaning_in}
 use Rattle.etx_expand.specs.declared.get.Watch.{Watch}
 use Rattle.etx_expand.specs.declared.get.Watch.TheVariants as watch
 use Rattle.etx_expand.specs.declared.get.Got.TheVariants as got
 use Rattle.etx_expand.specs.declared.plan.Turned.TheVariants as turned
 use Rattle.etx_expand.specs.Moves.{charge_of, charged}
 use Rattle.etx_expand.specs.Meanings.{is_outer}
+use Rattle.etx_expand.specs.Turn.{relaxed, name_made}
 use Rattle.etx_expand.specs.Getting.{getting, forbidden, admitted, watch_of, token_got, name_got, lexed_got, next_got, file_ended, got_of}
 
 -- the scans and the steps are as they were
@@ -72,7 +74,7 @@ name_stays name m = by (has_room name m)
     taken = token_stays (Name (record { 0 = number_of name m })) Fresh (with_name name m)
 
     by : (b : Bool) → Stays m (if b then token_got (Name (record { 0 = number_of name m })) Fresh (with_name name m) else getting m (got.Over (turned.End (Capacity Names)))).now
-    by true = record { scans = cc (known, taken); spent = cc (known, taken) }
+    by true = record { scans = cc (known.scans, taken.scans); spent = cc (known.spent, taken.spent) }
     by false = record { scans = refl; spent = refl }
 
 ended_stays : (w : Watch) (m : Mouth) → Stays m (file_ended w m).now
@@ -121,3 +123,21 @@ got_charges m = next_charges (given m).next (given m).input m
 -- the same of a mouth that is equal
 pub got_charges_to : (old new : Mouth) → new ≡ (got_of old).now → Charges old new
 got_charges_to old new is = subst (λ (u : Mouth). Charges old u) (sym is) (got_charges old)
+
+-- ---- the control sequence of a name that \csname read
+
+relaxed_stays : (n : ℕ) (mm : Meaning) (m : Mouth) → Stays m (relaxed n mm m)
+relaxed_stays n means.Undefined m = record { scans = refl; spent = refl }
+relaxed_stays n (means.Primitive p) m = record { scans = refl; spent = refl }
+relaxed_stays n (means.Char code cat) m = record { scans = refl; spent = refl }
+relaxed_stays n (means.Macro d) m = record { scans = refl; spent = refl }
+
+pub name_made_spent : (name : List ℕ) (m : Mouth) → (name_made name m).spent ≡ m.spent
+unfolding name_made
+name_made_spent name m =
+    let h = with_name_stays name m in
+    let k = relaxed_stays (number_of name m) (meaning_in (with_name name m).values (number_of name m)) (with_name name m) in
+    cc (h.spent, k.spent)
+
+pub name_made_spent_to : (name : List ℕ) (m new : Mouth) → new ≡ name_made name m → new.spent ≡ m.spent
+name_made_spent_to name m new is = subst (λ (u : Mouth). u.spent ≡ m.spent) (sym is) (name_made_spent name m)

@@ -155,7 +155,7 @@ fn again(done: Result<(), AllocError>) -> Result<Turned, AllocError>
 /// Carries a move out; `token` is the one that the scan got. After an `Err` the state is only dropped.
 #[tactic(auto, unfolding(crate::specs::Moves::made))]
 pub fn make(s: &mut State, token: Token, go: Move) -> Result<Turned, AllocError>
-    requires { s.old.spent + 2 < 2 ^ 64 }
+    requires { s.old.spent + 1 < 2 ^ 64 }
     ensures now { OnOk result (mouth_of s.new ≡ made token go (mouth_of s.old)) }
     ensures turned { IfOk result (λ t. t ≡ outcome go (mouth_of s.old)) }
 {
