@@ -3,6 +3,7 @@ ghost use Rattle.std.specs.Prelude.{◌≡◌, ◌≢◌, ◌+◌, ◌<◌, ◌�
 ghost use Rattle.etx_state.specs.States.{mouth_of, with_scans, number_of, has_room};
 ghost use Rattle.etx_state.specs.Reading.{meaning_in};
 ghost use Rattle.etx_expand.specs.Moves.{moved, entered, put_back};
+ghost use Rattle.etx_expand.specs.Measure.{Goes};
 ghost use Rattle.etx_expand.specs.Turn.{relaxed, name_made, name_end_turn, cs_name_turn, text_goes_on, text_turn, string_turn, text_brace_row, handed, scan_turn, expand_under, kept_turn, say_turn, top_of, turn_of, wanted, begun, ready};
 
 use crate::get::{Got, get};
@@ -426,10 +427,9 @@ fn due(s: &mut State) -> Result<Turned, AllocError>
     }
 }
 
-/// One turn of expansion: what stands on top of the stack gets a token, or is done. After an `Err` the state is only
-/// dropped.
+/// What stands on top of the stack gets a token, or is done.
 #[tactic(auto, unfolding(crate::specs::Turn::turn_of))]
-pub fn turn(s: &mut State) -> Result<Turned, AllocError>
+fn turn_top(s: &mut State) -> Result<Turned, AllocError>
     requires room { s.old.spent + 2 < 2 ^ 64 }
     ensures now { OnOk result (mouth_of s.new ≡ (turn_of (mouth_of s.old)).now) }
     ensures turned { IfOk result (λ t. t ≡ (turn_of (mouth_of s.old)).turned) }
@@ -440,6 +440,21 @@ pub fn turn(s: &mut State) -> Result<Turned, AllocError>
         Top::Kept => keep(s),
         Top::Due => due(s),
     }
+}
+
+/// One turn of expansion, where something stands on the stack: what is on top gets a token, or is done.
+///
+/// Each turn goes on: it ends the job, reports an error, takes a step, or makes the weight of the mouth smaller.
+/// After an `Err` the state is only dropped.
+pub fn turn(s: &mut State) -> Result<Turned, AllocError>
+    requires room { s.old.spent + 2 < 2 ^ 64 }
+    requires scan { s.old.scans ≢ [] }
+    ensures now { OnOk result (mouth_of s.new ≡ (turn_of (mouth_of s.old)).now) }
+    ensures turned { IfOk result (λ t. t ≡ (turn_of (mouth_of s.old)).turned) }
+    ensures goes { IfOk result (λ t. Goes t (mouth_of s.old) (mouth_of s.new)) }
+{
+    let turned = turn_top(s)?;
+    Ok(turned)
 }
 
 /// Puts a wish on the stack.
