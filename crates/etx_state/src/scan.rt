@@ -42,7 +42,9 @@ pub enum Scan {
     /// The main loop waits for a command.
     Command,
     /// The control sequence `reader` waits for the left brace of a text that is expanded.
-    TextBrace { reader: Token },
+    TextBrace {
+        reader: Token,
+    },
     /// Its text so far, in which `depth` braces are open.
     Text {
         reader: Token,
@@ -71,15 +73,30 @@ pub enum Scan {
         mark: Option<Token>,
     },
     /// `\let` or, where `is_future` is true, `\futurelet` waits for the control sequence to be defined.
-    LetName { is_global: bool, is_future: bool },
+    LetName {
+        is_global: bool,
+        is_future: bool,
+    },
     /// `\let` waits for `=`, or for the token whose meaning is taken.
-    LetEquals { is_global: bool, name: Token },
+    LetEquals {
+        is_global: bool,
+        name: Token,
+    },
     /// The same behind `=`, where one space is skipped.
-    LetSpace { is_global: bool, name: Token },
+    LetSpace {
+        is_global: bool,
+        name: Token,
+    },
     /// The same behind that space.
-    LetToken { is_global: bool, name: Token },
+    LetToken {
+        is_global: bool,
+        name: Token,
+    },
     /// `\futurelet` waits for the first of its two tokens.
-    FutureFirst { is_global: bool, name: Token },
+    FutureFirst {
+        is_global: bool,
+        name: Token,
+    },
     /// `\aftergroup` waits for a token.
     AfterGroup,
     /// `\afterassignment` waits for a token.
@@ -87,13 +104,23 @@ pub enum Scan {
     /// `\ignorespaces` waits for a token that is no space.
     IgnoreSpaces,
     /// `\catcode` waits for a backquote.
-    CatcodeQuote { is_global: bool },
+    CatcodeQuote {
+        is_global: bool,
+    },
     /// It waits for the character that gets another category, or for a name of this one character.
-    CatcodeCharacter { is_global: bool },
+    CatcodeCharacter {
+        is_global: bool,
+    },
     /// It waits for `=`, or for the category's first digit.
-    CatcodeEquals { is_global: bool, code: u8 },
+    CatcodeEquals {
+        is_global: bool,
+        code: u8,
+    },
     /// It waits for the category's first digit.
-    CatcodeFirst { is_global: bool, code: u8 },
+    CatcodeFirst {
+        is_global: bool,
+        code: u8,
+    },
     /// It waits for the category's second digit, or for what follows the category.
     CatcodeSecond {
         is_global: bool,

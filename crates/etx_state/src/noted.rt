@@ -1,16 +1,17 @@
-ghost use Rattle.std.specs.Prelude.{◌≡◌, [], ◌∷◌, OnOk, OnErr, MatchOption};
+//! The tokens that the end of a group hands out.
+ghost use Rattle.std.specs.Prelude.{◌≡◌, ◌∷◌, [], OnOk, OnErr, IfOk};
 
-use etx_matter::Token;
+use etx_matter::{Token, Tokens};
 use std::alloc::{AllocError, Global};
 use std::marker::Model;
 
-/// Tokens that wait to be read, the next one first.
+/// Tokens, of which the one that is put in last is the first.
 #[derive(Drop)]
-pub struct Unread {
+pub struct Noted {
     tokens: Vec<Token>,
 }
 
-impl Model for Unread {
+impl Model for Noted {
     ghost use Rattle.std.specs.Prelude.{List, reverse};
     ghost use Rattle.etx_matter.specs.declared.token.Token.{Token};
 
@@ -19,12 +20,12 @@ impl Model for Unread {
     ghost view = { λ t. reverse t.tokens.items };
 }
 
-impl Unread {
+impl Noted {
     /// No tokens. Takes no memory.
-    pub fn new(alloc: Global) -> Unread
+    pub fn new(alloc: Global) -> Noted
         ensures { result ≡ [] }
     {
-        Unread {
+        Noted {
             tokens: Vec::new(alloc),
         }
     }
@@ -38,10 +39,12 @@ impl Unread {
         Ok(())
     }
 
-    /// Takes the next token. `None` exactly where there is none.
-    pub fn pop(&mut self) -> Option<Token>
-        ensures { MatchOption result ((self.old ≡ []) × (self.new ≡ [])) (λ token. self.old ≡ token ∷ self.new) }
+    /// The same tokens as a list.
+    pub fn into_tokens(self) -> Result<Tokens, AllocError>
+        ensures { IfOk result (λ tokens. tokens ≡ self) }
     {
-        self.tokens.pop()
+        let Noted { mut tokens } = self;
+        tokens.reverse();
+        Tokens::from_vec(tokens)
     }
 }
