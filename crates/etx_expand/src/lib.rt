@@ -12,6 +12,8 @@ mod moves;
 mod plan;
 mod printing;
 mod row;
+#[cfg(test)]
+mod tests;
 mod turns;
 
 pub use meaning::{Reading, is_expandable};
