@@ -121,8 +121,8 @@ name_goes name old m more = by (has_room name m)
     known : Stays m (with_name name m)
     known = with_name_stays name m
 
-    by : (b : Bool) → GoesGot (if b then token_got (Name (record { f0 = number_of name m })) Fresh (with_name name m) else getting m (got.Over (turned.End (Capacity Names)))).got old (if b then token_got (Name (record { f0 = number_of name m })) Fresh (with_name name m) else getting m (got.Over (turned.End (Capacity Names)))).now
-    by true = token_goes (Name (record { f0 = number_of name m })) Fresh old (with_name name m) (inl (omega (arith, known.spent, more)))
+    by : (b : Bool) → GoesGot (if b then token_got (Name (record { 0 = number_of name m })) Fresh (with_name name m) else getting m (got.Over (turned.End (Capacity Names)))).got old (if b then token_got (Name (record { 0 = number_of name m })) Fresh (with_name name m) else getting m (got.Over (turned.End (Capacity Names)))).now
+    by true = token_goes (Name (record { 0 = number_of name m })) Fresh old (with_name name m) (inl (omega (arith, known.spent, more)))
     by false = tt
 
 lexed_goes : (x : Lexed) (old m : Mouth) → m.spent ≡ old.spent → GoesGot (lexed_got x m).got old (lexed_got x m).now

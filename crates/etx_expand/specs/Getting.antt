@@ -102,7 +102,7 @@ invalid_text = codes "Text line contains an invalid character"
 
 -- a name of a file gets its number
 unfoldable pub name_got : List ℕ → Mouth → Getting
-name_got name m = if has_room name m then token_got (Name (record { f0 = number_of name m })) Fresh (with_name name m) else getting m (got.Over (turned.End (Capacity Names)))
+name_got name m = if has_room name m then token_got (Name (record { 0 = number_of name m })) Fresh (with_name name m) else getting m (got.Over (turned.End (Capacity Names)))
 
 -- a token is a step; a character that is invalid is none
 unfoldable pub lexed_got : Lexed → Mouth → Getting

@@ -34,8 +34,8 @@ use Rattle.etx_expand.specs.declared.plan.Turned.{Turned}
 use Rattle.etx_expand.specs.declared.plan.Turned.TheVariants as turned
 use Rattle.etx_expand.specs.declared.plan.Want.{Want}
 use Rattle.etx_expand.specs.declared.plan.Want.TheVariants as want
-use Rattle.etx_expand.specs.declared.turn.Top.{Top}
-use Rattle.etx_expand.specs.declared.turn.Top.TheVariants as top
+use Rattle.etx_expand.specs.declared.turns.Top.{Top}
+use Rattle.etx_expand.specs.declared.turns.Top.TheVariants as top
 use Rattle.etx_expand.specs.declared.row.Brace.{Brace}
 use Rattle.etx_expand.specs.declared.row.Brace.TheVariants.{Left, Right, Neither}
 use Rattle.etx_expand.specs.Moves.{After, after, moved, entered, scanning, put_back}
@@ -89,7 +89,7 @@ relaxed n means.Undefined m = with_values (assign m.values (key.Meaning n) (val.
 relaxed n _ m = m
 
 abbrev pub name_token : List ℕ → Mouth → Token
-name_token name m = Name (record { f0 = number_of name m })
+name_token name m = Name (record { 0 = number_of name m })
 
 unfoldable pub name_made : List ℕ → Mouth → Mouth
 name_made name m = relaxed (number_of name m) (meaning_in (with_name name m).values (number_of name m)) (with_name name m)

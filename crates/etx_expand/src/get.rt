@@ -2,6 +2,7 @@
 ghost use Rattle.std.specs.Prelude.{◌≡◌, ◌+◌, ◌<◌, ◌≤◌, ◌^◌, ◌++◌, [], ◌∷◌, codes, MatchOption, OnOk, IfOk};
 ghost use Rattle.etx_state.specs.States.{mouth_of};
 ghost use Rattle.etx_expand.specs.Moves.{read_next, charge_of, error_deed};
+ghost use Rattle.etx_expand.specs.Printing.{shown_name};
 ghost use Rattle.etx_expand.specs.Getting.{watch_by, watch_at, watch_of, watched, ending_of, forbidden, file_ended, unexpanded, admitted, token_got, name_got, lexed_got, next_got, invalid_text, got_of};
 
 use crate::meaning::{is_expandable, is_outer};
@@ -68,7 +69,8 @@ fn watch_at(entry: &Entry) -> Option<Watch>
 }
 
 /// What the scans in progress say of outer control sequences: the innermost that says something decides.
-fn watch(scans: &Scans) -> Watch
+#[tactic(auto, unfolding(crate::specs::Getting::watch_of))]
+fn find_watch(scans: &Scans) -> Watch
     ensures { result ≡ watch_of scans.now }
 {
     for i in 0..scans.len() {
@@ -82,20 +84,22 @@ fn watch(scans: &Scans) -> Watch
     Watch::Nothing
 }
 
+/// Adds a phrase and the name of a control sequence.
+fn push_phrase(s: &State, text: &mut Bytes, phrase: &[u8], name: Token) -> Result<(), AllocError>
+    ensures { OnOk result (text.new ≡ text.old ++ (phrase.now ++ shown_name (mouth_of s.now) name)) }
+{
+    text.extend_from_slice(phrase)?;
+    push_name(s, text, name)
+}
+
 /// Adds what is read, as errors say it.
 fn push_watched(s: &State, text: &mut Bytes, watch: Watch) -> Result<(), AllocError>
     ensures { OnOk result (text.new ≡ text.old ++ watched (mouth_of s.now) watch) }
 {
     match watch {
         Watch::Nothing => Ok(()),
-        Watch::Defining(name) => {
-            text.extend_from_slice(b"definition of ")?;
-            push_name(s, text, name)
-        }
-        Watch::Absorbing(name) => {
-            text.extend_from_slice(b"text of ")?;
-            push_name(s, text, name)
-        }
+        Watch::Defining(name) => push_phrase(s, text, b"definition of ", name),
+        Watch::Absorbing(name) => push_phrase(s, text, b"text of ", name),
     }
 }
 
@@ -145,7 +149,7 @@ fn admit(s: &mut State, token: Token, meaning: Meaning) -> Result<Got, AllocErro
     if !is_outer(&meaning) {
         return Ok(Got::Token { token, meaning });
     }
-    let watch = watch(&s.scans);
+    let watch = find_watch(&s.scans);
     match watch {
         Watch::Nothing => Ok(Got::Token { token, meaning }),
         Watch::Defining(_) => forbid(s, watch, token),
@@ -231,7 +235,7 @@ fn end_file(s: &mut State) -> Result<Got, AllocError>
     ensures now { OnOk result (mouth_of s.new ≡ (file_ended (watch_of (mouth_of s.old).scans) (mouth_of s.old)).now) }
     ensures got { IfOk result (λ g. g ≡ (file_ended (watch_of (mouth_of s.old).scans) (mouth_of s.old)).got) }
 {
-    let watch = watch(&s.scans);
+    let watch = find_watch(&s.scans);
     match watch {
         Watch::Nothing => Ok(Got::Over(Turned::Again)),
         Watch::Defining(_) => cut_short(s, watch),
@@ -287,5 +291,6 @@ pub(crate) fn get(s: &mut State) -> Result<Got, AllocError>
     ensures scans { OnOk result (s.new.scans ≡ s.old.scans) }
 {
     let next = s.next()?;
-    take_next(s, next)
+    let got = take_next(s, next)?;
+    Ok(got)
 }

@@ -94,7 +94,7 @@ fn body_reading(is_expanded: bool, mark: Option<Token>) -> Reading
 }
 
 #[tactic(auto, unfolding(crate::specs::Meanings::reading_of))]
-pub(crate) fn reading(scan: &Scan) -> Reading
+pub(crate) fn reading_of(scan: &Scan) -> Reading
     ensures { result ≡ reading_of scan.now }
 {
     match scan {

@@ -1,6 +1,6 @@
 //! The interpreter of moves.
 ghost use Rattle.std.specs.Prelude.{◌≡◌, ◌+◌, ◌<◌, ◌^◌, ◌∷◌, [], Ok, OnOk, IfOk};
-ghost use Rattle.etx_state.specs.States.{mouth_of};
+ghost use Rattle.etx_state.specs.States.{mouth_of, group_ended};
 ghost use Rattle.etx_expand.specs.Moves.{charged, put_back, read_next, entered, scanning, pushed, scanning_on, back_if, failed, made, outcome, error_deed};
 
 use crate::plan::{Failure, Move, Push, Turned};
@@ -44,8 +44,9 @@ pub(crate) fn enter(s: &mut State, entry: Entry) -> Result<(), AllocError>
 }
 
 /// The innermost group ends. Rows ask for it only where one is open; where none is, nothing happens.
+#[tactic(auto, using(crate::proofs::Groups::no_group))]
 fn end_group(s: &mut State) -> Result<(), AllocError>
-    ensures { OnOk result (mouth_of s.new ≡ pushed Push.GroupEnd (mouth_of s.old)) }
+    ensures { OnOk result (mouth_of s.new ≡ group_ended (mouth_of s.old)) }
 {
     match end(s) {
         Ok(_) => Ok(()),
@@ -142,7 +143,7 @@ fn put_back_under(s: &mut State, token: Token, upper: Token) -> Result<(), Alloc
 
 /// The turn goes on, if there was memory.
 fn again(done: Result<(), AllocError>) -> Result<Turned, AllocError>
-    ensures ok { OnOk result (done ≡ Ok ()) }
+    ensures ok { OnOk result (done ≡ Ok tt) }
     ensures again { IfOk result (λ t. t ≡ Turned.Again) }
 {
     match done {
@@ -154,7 +155,7 @@ fn again(done: Result<(), AllocError>) -> Result<Turned, AllocError>
 /// Carries a move out; `token` is the one that the scan got. After an `Err` the state is only dropped.
 #[tactic(auto, unfolding(crate::specs::Moves::made))]
 pub fn make(s: &mut State, token: Token, go: Move) -> Result<Turned, AllocError>
-    requires { s.old.spent + 2 < 2 ^ 64 }
+    requires { s.old.spent + 1 < 2 ^ 64 }
     ensures now { OnOk result (mouth_of s.new ≡ made token go (mouth_of s.old)) }
     ensures turned { IfOk result (λ t. t ≡ outcome go (mouth_of s.old)) }
 {

@@ -3,10 +3,11 @@ ghost use Rattle.std.specs.Prelude.{◌≡◌, ◌≢◌, ◌+◌, ◌<◌, ◌�
 ghost use Rattle.etx_state.specs.States.{mouth_of, with_scans, number_of, has_room};
 ghost use Rattle.etx_state.specs.Reading.{meaning_in};
 ghost use Rattle.etx_expand.specs.Moves.{moved, entered, put_back};
+ghost use Rattle.etx_expand.specs.Measure.{Goes};
 ghost use Rattle.etx_expand.specs.Turn.{relaxed, name_made, name_end_turn, cs_name_turn, text_goes_on, text_turn, string_turn, text_brace_row, handed, scan_turn, expand_under, kept_turn, say_turn, top_of, turn_of, wanted, begun, ready};
 
 use crate::get::{Got, get};
-use crate::meaning::{Reading, is_expandable, is_expanded_by, reading};
+use crate::meaning::{Reading, is_expandable, is_expanded_by, reading_of};
 use crate::moves::{enter, make, put_back};
 use crate::plan::{Move, Push, Turned, Value, Want};
 use crate::printing::{character_tokens, spell};
@@ -34,13 +35,13 @@ enum Top {
     Due,
 }
 
-fn top(scans: &Scans) -> Top
+fn find_top(scans: &Scans) -> Top
     ensures { result ≡ top_of scans.now }
 {
     match scans.at(0) {
         None => Top::Nothing,
         Some(entry) => match entry {
-            Entry::Scan(scan) => Top::Scan(reading(scan)),
+            Entry::Scan(scan) => Top::Scan(reading_of(scan)),
             Entry::Kept { .. } => Top::Kept,
             Entry::PutBack(_) => Top::Due,
             Entry::Say { .. } => Top::Due,
@@ -426,20 +427,34 @@ fn due(s: &mut State) -> Result<Turned, AllocError>
     }
 }
 
-/// One turn of expansion: what stands on top of the stack gets a token, or is done. After an `Err` the state is only
-/// dropped.
+/// What stands on top of the stack gets a token, or is done.
 #[tactic(auto, unfolding(crate::specs::Turn::turn_of))]
-pub fn turn(s: &mut State) -> Result<Turned, AllocError>
+fn turn_top(s: &mut State) -> Result<Turned, AllocError>
     requires room { s.old.spent + 2 < 2 ^ 64 }
     ensures now { OnOk result (mouth_of s.new ≡ (turn_of (mouth_of s.old)).now) }
     ensures turned { IfOk result (λ t. t ≡ (turn_of (mouth_of s.old)).turned) }
 {
-    match top(&s.scans) {
+    match find_top(&s.scans) {
         Top::Nothing => Ok(Turned::Again),
         Top::Scan(by) => scan(s, by),
         Top::Kept => keep(s),
         Top::Due => due(s),
     }
+}
+
+/// One turn of expansion, where something stands on the stack: what is on top gets a token, or is done.
+///
+/// Each turn goes on: it ends the job, reports an error, takes a step, or makes the weight of the mouth smaller.
+/// After an `Err` the state is only dropped.
+pub fn turn(s: &mut State) -> Result<Turned, AllocError>
+    requires room { s.old.spent + 2 < 2 ^ 64 }
+    requires scan { s.old.scans ≢ [] }
+    ensures now { OnOk result (mouth_of s.new ≡ (turn_of (mouth_of s.old)).now) }
+    ensures turned { IfOk result (λ t. t ≡ (turn_of (mouth_of s.old)).turned) }
+    ensures goes { IfOk result (λ t. Goes t (mouth_of s.old) (mouth_of s.new)) }
+{
+    let turned = turn_top(s)?;
+    Ok(turned)
 }
 
 /// Puts a wish on the stack.
