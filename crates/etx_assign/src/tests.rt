@@ -63,7 +63,7 @@ fn goes_on(s: &mut State, seen: &mut Seen) -> Result<bool, Capacity> {
     if s.scans.is_empty() {
         want(s, Want::Token)?;
     }
-    if s.spent > MOST_STEPS {
+    if s.spent > MOST_STEPS || s.scans.is_empty() {
         return Ok(false);
     }
     let turned = match turn(s)? {

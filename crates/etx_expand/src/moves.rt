@@ -11,16 +11,16 @@ use etx_matter::{Audience, Deed, Token};
 use etx_state::{Entry, Keeper, Scan, State};
 use std::alloc::AllocError;
 
-/// Puts a token back.
-pub(crate) fn put_back(s: &mut State, token: Token) -> Result<(), AllocError>
+/// Puts a token back. After an `Err` the state is only dropped.
+pub fn put_back(s: &mut State, token: Token) -> Result<(), AllocError>
     ensures { OnOk result (mouth_of s.new ≡ put_back token (mouth_of s.old)) }
 {
     s.input.push_token(token, Origin::Back)?;
     Ok(())
 }
 
-/// Reads one token before all else.
-pub(crate) fn read_one(s: &mut State, token: Token, origin: Origin) -> Result<(), AllocError>
+/// Reads one token before all else. After an `Err` the state is only dropped.
+pub fn read_one(s: &mut State, token: Token, origin: Origin) -> Result<(), AllocError>
     ensures { OnOk result (mouth_of s.new ≡ read_next origin (token ∷ []) (mouth_of s.old)) }
 {
     s.input.push_token(token, origin)?;

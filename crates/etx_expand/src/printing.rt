@@ -67,8 +67,8 @@ fn print_character(s: &State, bytes: &mut Bytes, code: u8) -> Result<(), AllocEr
     }
 }
 
-/// Prints these characters behind these bytes.
-fn print(s: &State, bytes: &mut Bytes, text: &[u8]) -> Result<(), AllocError>
+/// Prints these characters behind these bytes. After an `Err` some may have been added.
+pub fn push_printed(s: &State, bytes: &mut Bytes, text: &[u8]) -> Result<(), AllocError>
     ensures { OnOk result (bytes.new ≡ bytes.old ++ printed (mouth_of s.now).values text.now) }
 {
     for code in text {
@@ -99,8 +99,18 @@ fn push_word(s: &State, bytes: &mut Bytes, word: &[u8]) -> Result<(), AllocError
     Ok(())
 }
 
+/// Adds a command's name as errors show it: the escape character and the name, printed. After an `Err` some of it may have
+/// been added.
+pub fn push_escaped(s: &State, bytes: &mut Bytes, name: &[u8]) -> Result<(), AllocError>
+    ensures { OnOk result (bytes.new ≡ bytes.old ++ printed (mouth_of s.now).values (escape_in (mouth_of s.now).values ++ name.now)) }
+{
+    let mut text = Bytes::new(s.alloc());
+    push_word(s, &mut text, name)?;
+    push_printed(s, bytes, text.as_slice())
+}
+
 /// The characters of a name: the escape character and the name. The empty name is that of `\csname\endcsname`.
-fn push_escaped(s: &State, bytes: &mut Bytes, name: &[u8]) -> Result<(), AllocError>
+fn push_name_text(s: &State, bytes: &mut Bytes, name: &[u8]) -> Result<(), AllocError>
     ensures { OnOk result (bytes.new ≡ bytes.old ++ escaped (mouth_of s.now).values name.now) }
 {
     if name.is_empty() {
@@ -140,7 +150,7 @@ pub(crate) fn spell(s: &State, bytes: &mut Bytes, token: Token) -> Result<(), Al
             bytes.push(code)?;
             Ok(())
         }
-        Token::Name(name) => push_escaped(s, bytes, text_of(s, name)),
+        Token::Name(name) => push_name_text(s, bytes, text_of(s, name)),
         Token::Param(number) => push_parameter(bytes, number),
     }
 }
@@ -172,7 +182,7 @@ fn push_character(bytes: &mut Bytes, code: u8, cat: u8) -> Result<(), AllocError
 fn push_name_in_text(s: &State, bytes: &mut Bytes, name: &[u8]) -> Result<(), AllocError>
     ensures { OnOk result (bytes.new ≡ bytes.old ++ (escaped (mouth_of s.now).values name.now ++ space_behind (mouth_of s.now).values name.now)) }
 {
-    push_escaped(s, bytes, name)?;
+    push_name_text(s, bytes, name)?;
     push_space(s, bytes, name)
 }
 
@@ -206,7 +216,7 @@ pub fn said_text(s: &State, tokens: &[Token]) -> Result<Bytes, AllocError>
 {
     let text = text_of_tokens(s, tokens)?;
     let mut bytes = Bytes::new(s.alloc());
-    print(s, &mut bytes, text.as_slice())?;
+    push_printed(s, &mut bytes, text.as_slice())?;
     Ok(bytes)
 }
 
@@ -217,7 +227,7 @@ pub fn push_name(s: &State, bytes: &mut Bytes, token: Token) -> Result<(), Alloc
 {
     let mut text = Bytes::new(s.alloc());
     spell(s, &mut text, token)?;
-    print(s, bytes, text.as_slice())
+    push_printed(s, bytes, text.as_slice())
 }
 
 /// A character as a token: a space is a space, and any other is an other character.

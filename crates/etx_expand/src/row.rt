@@ -147,11 +147,12 @@ fn is_blank(meaning: &Meaning) -> bool
     }
 }
 
-fn is_left_brace(meaning: &Meaning) -> bool
-    ensures { result ≡ has_category 1 meaning.now }
+/// Whether a token means a character of this category.
+pub fn has_category(category: u8, meaning: &Meaning) -> bool
+    ensures { result ≡ has_category category meaning.now }
 {
     match meaning {
-        Meaning::Char { cat, .. } => *cat == 1,
+        Meaning::Char { cat, .. } => *cat == category,
         _ => false,
     }
 }
@@ -173,7 +174,7 @@ pub(crate) fn text_brace_row(
         depth: 0,
         items: Tokens::new(alloc),
     };
-    if is_left_brace(meaning) {
+    if has_category(1, meaning) {
         Ok(Move::Used(Push::Begin(text)))
     } else {
         failure_into(alloc, b"Missing { inserted", text)
@@ -181,7 +182,7 @@ pub(crate) fn text_brace_row(
 }
 
 #[tactic(auto, unfolding(crate::specs::Turn::brace_of))]
-pub(crate) fn brace_of(token: Token) -> Brace
+pub fn brace_of(token: Token) -> Brace
     ensures { result ≡ brace_of token }
 {
     match token {
