@@ -77,7 +77,7 @@ ending_of (watch.Absorbing name) = Char 125 2 ∷ []
 abbrev pub forbidden : Watch → Token → Mouth → Getting
 forbidden w t m =
     getting (read_next Back (Char 32 10 ∷ []) (read_next Fresh (ending_of w) (put_back t m)))
-      (got.Over (error_deed (codes "Forbidden control sequence found while scanning " ++ watched m w) m))
+    (got.Over (error_deed (codes "Forbidden control sequence found while scanning " ++ watched m w) m))
 
 -- A file that is over in the midst of a scan: the scan gets what ends it.
 abbrev pub file_ended : Watch → Mouth → Getting
