@@ -1,5 +1,5 @@
 -- Each turn ends the job, reports an error, takes a step, or makes the weight of the mouth smaller.
-use Rattle.std.proofs.Common.{◌≡◌, ℕ, ℤ, zero, suc, ◌+◌, ◌*◌, ◌-◌, ◌<◌, ◌≤◌, ◌⊎◌, inl, inr, ◌==◌, Bool, true, false, List, [], ◌∷◌, ◌++◌, length, Option, Some, None, refl, sym, subst, ap, arith, codes, if◌then◌else◌}
+use Rattle.std.proofs.Common.{◌≡◌, ℕ, ℤ, ◌+◌, ◌-◌, ◌<◌, ◌≤◌, inl, inr, ◌==◌, Bool, true, false, List, [], ◌∷◌, ◌++◌, Option, Some, None, refl, sym, subst, ap, arith, if◌then◌else◌}
 use Rattle.etx_matter.specs.declared.token.Token.{Token}
 use Rattle.etx_matter.specs.declared.token.Token.TheVariants.{Char, Name, Param}
 use Rattle.etx_matter.specs.declared.end.End.TheVariants.{Unbuilt, Capacity}
@@ -7,7 +7,6 @@ use Rattle.etx_matter.specs.declared.end.Limit.TheVariants.{Names}
 use Rattle.etx_lexer.specs.declared.lexed.Lexed.{Lexed}
 use Rattle.etx_lexer.specs.declared.lexed.Lexed.TheVariants as lexed
 use Rattle.etx_input.specs.Files.{FileState, got_of as file_got}
-use Rattle.etx_input.specs.Lists.{ListState}
 use Rattle.etx_input.specs.Levels.{Given, InputState, with_list, list_given, file_given, given_in, given_of}
 use Rattle.etx_input.specs.declared.origin.Origin.{Origin}
 use Rattle.etx_input.specs.declared.origin.Origin.TheVariants.{Fresh, Back, Unexpanded}
@@ -32,7 +31,6 @@ use Rattle.etx_state.specs.declared.scan.Keeper.TheVariants as keeper
 use Rattle.etx_state.specs.declared.scan.Entry.{Entry}
 use Rattle.etx_state.specs.declared.scan.Entry.TheVariants as entry
 use Rattle.etx_state.specs.Values.{after as noted_after}
-use Rattle.etx_state.specs.Macros.{MacroState}
 use Rattle.etx_state.specs.Naming.{has_name}
 use Rattle.etx_state.specs.Reading.{category_in, int_in, meaning_in, token_meaning}
 use Rattle.etx_state.specs.States.{Mouth, with_input, with_scans, named, with_name, number_of, has_room, given, group_ended}
@@ -44,17 +42,17 @@ use Rattle.etx_expand.specs.declared.plan.Push.{Push}
 use Rattle.etx_expand.specs.declared.plan.Push.TheVariants.{Nothing, Begin, Text, GroupEnd, Say}
 use Rattle.etx_expand.specs.declared.plan.Move.{Move}
 use Rattle.etx_expand.specs.declared.plan.Move.TheVariants as move
-use Rattle.etx_expand.specs.declared.plan.Value.TheVariants.{One, List as Whole}
+use Rattle.etx_expand.specs.declared.plan.Value.TheVariants.{List as Whole}
 use Rattle.etx_expand.specs.declared.plan.Turned.{Turned}
 use Rattle.etx_expand.specs.declared.plan.Turned.TheVariants as turned
 use Rattle.etx_expand.specs.declared.row.Brace.{Brace}
 use Rattle.etx_expand.specs.declared.row.Brace.TheVariants.{Left, Right, Neither}
-use Rattle.etx_expand.specs.Moves.{After, after, moved, made, outcome, pushed, charge_of, charged, entered, scanning, put_back, read_next}
-use Rattle.etx_expand.specs.Getting.{Getting, getting, forbidden, admitted, watch_of, unexpanded, token_got, name_got, lexed_got, next_got, file_ended, got_of}
+use Rattle.etx_expand.specs.Moves.{After, after, moved, made, outcome, pushed, charged, entered, scanning, put_back, read_next}
+use Rattle.etx_expand.specs.Getting.{getting, forbidden, admitted, watch_of, token_got, name_got, lexed_got, next_got, file_ended, got_of}
 use Rattle.etx_expand.specs.Meanings.{is_expandable, is_outer, is_expanded_by, reading_of}
-use Rattle.etx_expand.specs.Measure.{tokens_weight, level_weight, levels_weight, scan_weight, entry_weight, stack_weight, weight, Pays, Goes}
+use Rattle.etx_expand.specs.Measure.{tokens_weight, levels_weight, scan_weight, entry_weight, stack_weight, weight, Pays, Goes}
 use Rattle.etx_expand.specs.Printing.{spelled, character_tokens}
-use Rattle.etx_expand.specs.Turn.{is_plain, macro_begun, primitive_begun, begun, relaxed, name_made, name_row, name_token, named_turn, name_end_turn, cs_name_turn, text_brace_row, text_goes_on, text_by, text_turn, brace_of, handed, string_turn, scan_turn, expand_under, kept_turn, scan_got, kept_got, say_turn, entry_turn, turn_of}
+use Rattle.etx_expand.specs.Turn.{is_plain, primitive_begun, begun, relaxed, name_made, name_row, name_token, named_turn, name_end_turn, cs_name_turn, text_brace_row, text_goes_on, text_by, text_turn, brace_of, handed, scan_turn, kept_turn, scan_got, kept_got, say_turn, entry_turn, turn_of}
 use Rattle.etx_expand.proofs.Gotten.{Stays, with_name_stays, got_charges}
 
 -- ---- what the input gives

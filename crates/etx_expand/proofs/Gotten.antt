@@ -1,7 +1,7 @@
 -- Getting a token changes no scan, and is one step at most.
-use Rattle.std.proofs.Common.{◌≡◌, ℕ, ◌+◌, ◌≤◌, Bool, true, false, List, [], ◌∷◌, Option, Some, None, refl, sym, subst, ap, arith, if◌then◌else◌}
+use Rattle.std.proofs.Common.{◌≡◌, ℕ, ◌+◌, ◌≤◌, Bool, true, false, List, Option, Some, None, refl, sym, subst, arith, if◌then◌else◌}
 use Rattle.etx_matter.specs.declared.token.Token.{Token}
-use Rattle.etx_matter.specs.declared.token.Token.TheVariants.{Char, Name, Param}
+use Rattle.etx_matter.specs.declared.token.Token.TheVariants.{Char, Name}
 use Rattle.etx_matter.specs.declared.end.End.TheVariants.{Capacity}
 use Rattle.etx_matter.specs.declared.end.Limit.TheVariants.{Names}
 use Rattle.etx_lexer.specs.declared.lexed.Lexed.{Lexed}

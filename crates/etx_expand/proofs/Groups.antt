@@ -1,10 +1,10 @@
 -- Where no group is open, the end of one changes nothing.
-use Rattle.std.proofs.Common.{◌≡◌, ℕ, zero, suc, List, [], ◌∷◌, length, refl, arith}
+use Rattle.std.proofs.Common.{◌≡◌, ℕ, List, [], ◌∷◌, length, refl, arith}
 use Rattle.etx_input.specs.Levels.{InputState, with_list}
 use Rattle.etx_state.specs.declared.key.Key.{Key}
 use Rattle.etx_state.specs.declared.key.Val.{Val}
 use Rattle.etx_state.specs.declared.scan.Entry.{Entry}
-use Rattle.etx_state.specs.Values.{Values, Group, level, after, ended}
+use Rattle.etx_state.specs.Values.{Group, level, after, ended}
 use Rattle.etx_state.specs.States.{Mouth, group_ended}
 
 abbrev mouth : (Key → Val) → List Group → List (List ℕ) → InputState → List Entry → ℕ → Mouth

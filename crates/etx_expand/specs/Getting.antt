@@ -1,9 +1,8 @@
 -- How a token is got: from the input, with its meaning; what an outer macro and the end of a file do in the midst of a scan
 -- ("TeX: The Program", sections 336 to 339, 341 to 362 and 365).
-use Rattle.std.specs.Prelude.{ℕ, ◌+◌, Bool, true, false, not, ◌&&◌, List, [], ◌∷◌, ◌++◌, codes, if◌then◌else◌}
+use Rattle.std.specs.Prelude.{ℕ, List, [], ◌∷◌, ◌++◌, codes, if◌then◌else◌}
 use Rattle.etx_matter.specs.declared.token.Token.{Token}
-use Rattle.etx_matter.specs.declared.token.Token.TheVariants.{Char, Name, Param}
-use Rattle.etx_matter.specs.declared.token.NameId.{NameId}
+use Rattle.etx_matter.specs.declared.token.Token.TheVariants.{Char, Name}
 use Rattle.etx_matter.specs.declared.end.End.TheVariants.{Fatal, Capacity}
 use Rattle.etx_matter.specs.declared.end.FatalError.TheVariants.{NoLegalEnd}
 use Rattle.etx_matter.specs.declared.end.Limit.TheVariants.{Names}
@@ -77,7 +76,7 @@ ending_of (watch.Absorbing name) = Char 125 2 ∷ []
 abbrev pub forbidden : Watch → Token → Mouth → Getting
 forbidden w t m =
     getting (read_next Back (Char 32 10 ∷ []) (read_next Fresh (ending_of w) (put_back t m)))
-      (got.Over (error_deed (codes "Forbidden control sequence found while scanning " ++ watched m w) m))
+    (got.Over (error_deed (codes "Forbidden control sequence found while scanning " ++ watched m w) m))
 
 -- A file that is over in the midst of a scan: the scan gets what ends it.
 abbrev pub file_ended : Watch → Mouth → Getting

@@ -3,7 +3,6 @@ use Rattle.std.specs.Prelude.{ℕ, ◌+◌, ◌-◌, ◌/◌, ◌%◌, ◌==◌,
 use Rattle.etx_lexer.specs.Places.{end_of_line}
 use Rattle.etx_matter.specs.declared.token.Token.{Token}
 use Rattle.etx_matter.specs.declared.token.Token.TheVariants.{Char, Name, Param}
-use Rattle.etx_matter.specs.declared.token.NameId.{NameId}
 use Rattle.etx_prims.specs.declared.parameters.IntParam.TheVariants.{EscapeChar, NewLineChar}
 use Rattle.etx_state.specs.Values.{Values}
 use Rattle.etx_state.specs.States.{Mouth, category_in, int_in}

@@ -26,7 +26,6 @@ use Rattle.etx_state.specs.Macros.{MacroState}
 use Rattle.etx_expand.specs.declared.get.Got.{Got}
 use Rattle.etx_expand.specs.declared.get.Got.TheVariants as got
 use Rattle.etx_expand.specs.declared.plan.Push.TheVariants.{Nothing, Begin, Text}
-use Rattle.etx_expand.specs.declared.plan.Failure.{Failure}
 use Rattle.etx_expand.specs.declared.plan.Move.{Move}
 use Rattle.etx_expand.specs.declared.plan.Move.TheVariants.{Used, Stay, Copied, Hold, Unexpanded, Fails, Ends}
 use Rattle.etx_expand.specs.declared.plan.Value.TheVariants.{One, List as Whole}
@@ -39,7 +38,7 @@ use Rattle.etx_expand.specs.declared.turns.Top.TheVariants as top
 use Rattle.etx_expand.specs.declared.row.Brace.{Brace}
 use Rattle.etx_expand.specs.declared.row.Brace.TheVariants.{Left, Right, Neither}
 use Rattle.etx_expand.specs.Moves.{After, after, moved, entered, scanning, put_back}
-use Rattle.etx_expand.specs.Getting.{Getting, got_of}
+use Rattle.etx_expand.specs.Getting.{got_of}
 use Rattle.etx_expand.specs.Meanings.{is_expandable, is_expanded_by, reading_of}
 use Rattle.etx_expand.specs.Printing.{spelled, character_tokens}
 

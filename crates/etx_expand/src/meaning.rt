@@ -124,7 +124,9 @@ pub(crate) fn reading_of(scan: &Scan) -> Reading
         | Scan::CatcodeSpace { .. } => Reading::Expanded,
         Scan::Text { .. } => Reading::Text,
         Scan::DefBody {
-            definition, mark, ..
+            definition,
+            mark,
+            ..
         } => body_reading(definition.is_expanded, *mark),
     }
 }

@@ -109,7 +109,14 @@ fn reads_text(alloc: Global, text: &[u8], all: &[u8]) -> Result<bool, AllocError
     if !defines_outer(&mut s, alloc, b"o")? {
         return Ok(false);
     }
-    if want(&mut s, Want::Text { reader: Token::Name(PAR) }).is_err() {
+    if want(
+        &mut s,
+        Want::Text {
+            reader: Token::Name(PAR),
+        },
+    )
+    .is_err()
+    {
         return Ok(false);
     }
     let said = run(&mut s, alloc)?;
@@ -126,7 +133,13 @@ fn steps(alloc: Global, text: &[u8]) -> Result<u64, AllocError> {
 #[test]
 fn expandafter_goes_past_a_token(rt: HostRuntime) -> Result<(), Fail> {
     let alloc = rt.alloc();
-    assert!(rt; gives(alloc, b"\\expandafter\\string\\csname a b\\endcsname", b"\\a b")?);
+    assert!(rt;
+        gives(
+            alloc,
+            b"\\expandafter\\string\\csname a b\\endcsname",
+            b"\\a b"
+        )?
+    );
     assert!(rt; gives(alloc, b"\\expandafter xy", b"xy ")?);
     Ok(())
 }
@@ -134,7 +147,13 @@ fn expandafter_goes_past_a_token(rt: HostRuntime) -> Result<(), Fail> {
 #[test]
 fn string_and_noexpand_take_a_token(rt: HostRuntime) -> Result<(), Fail> {
     let alloc = rt.alloc();
-    assert!(rt; gives(alloc, b"\\string\\relax\\noexpand\\undefined x\\undefined", b"\\relax:x*")?);
+    assert!(rt;
+        gives(
+            alloc,
+            b"\\string\\relax\\noexpand\\undefined x\\undefined",
+            b"\\relax:x*"
+        )?
+    );
     Ok(())
 }
 
