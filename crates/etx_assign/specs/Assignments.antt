@@ -6,6 +6,7 @@ use Rattle.etx_matter.specs.declared.token.Token.TheVariants.{Char, Name, Param}
 use Rattle.etx_prims.specs.declared.command.Primitive.{Primitive}
 use Rattle.etx_prims.specs.declared.command.Primitive.TheVariants as prims
 use Rattle.etx_prims.specs.declared.parameters.IntParam.TheVariants.{GlobalDefs}
+use Rattle.etx_prims.specs.declared.assignments.DefKind.{DefKind}
 use Rattle.etx_prims.specs.declared.assignments.PrefixKind.{PrefixKind}
 use Rattle.etx_prims.specs.declared.assignments.PrefixKind.TheVariants as prefixes
 use Rattle.etx_state.specs.declared.key.Key.{Key}
@@ -13,11 +14,13 @@ use Rattle.etx_state.specs.declared.key.Key.TheVariants as key
 use Rattle.etx_state.specs.declared.key.Val.{Val}
 use Rattle.etx_state.specs.declared.key.Val.TheVariants as val
 use Rattle.etx_state.specs.declared.scan.Prefixes.{Prefixes}
-use Rattle.etx_state.specs.Values.{Values, get, assign, assign_global, change}
-use Rattle.etx_state.specs.States.{int_in}
+use Rattle.etx_state.specs.Values.{Values, assign, assign_global, change}
+use Rattle.etx_state.specs.States.{int_in, kept_in}
 use Rattle.etx_expand.specs.declared.plan.Push.TheVariants.{Nothing, Text}
 use Rattle.etx_expand.specs.declared.plan.Move.{Move}
 use Rattle.etx_expand.specs.declared.plan.Move.TheVariants.{Used, Back, BackUnder}
+use Rattle.etx_assign.specs.declared.prefix.Behind.{Behind}
+use Rattle.etx_assign.specs.declared.prefix.Behind.TheVariants as behind
 
 -- the values behind an assignment, and what becomes of the token
 pub record Planned : Type 0 where
@@ -56,14 +59,7 @@ global_def_by (negsuc n) is_global always = false
 unfoldable pub is_global_def_in : Values → Bool → Bool → Bool
 is_global_def_in v is_global always = global_def_by (int_in v GlobalDefs) is_global always
 
--- the token that \afterassignment keeps
-abbrev pub token_or : Val → Option Token
-token_or (val.Kept t) = t
-token_or _ = None
-
-unfoldable pub kept_token : Values → Option Token
-kept_token v = token_or (get v key.AfterAssignment)
-
+-- \afterassignment keeps a token no longer
 unfoldable pub without_kept : Values → Values
 without_kept v = change v key.AfterAssignment (val.Kept None)
 
@@ -73,7 +69,7 @@ over_by None v = planned v (Used Nothing)
 over_by (Some t) v = planned (without_kept v) (Used (Text (t ∷ [])))
 
 unfoldable pub over : Values → Planned
-over v = over_by (kept_token v) v
+over v = over_by (kept_in v) v
 
 -- the same where the last token is read again
 abbrev pub over_before_by : Option Token → Values → Planned
@@ -81,7 +77,7 @@ over_before_by None v = planned v Back
 over_before_by (Some t) v = planned (without_kept v) (BackUnder t)
 
 unfoldable pub over_before : Values → Planned
-over_before v = over_before_by (kept_token v) v
+over_before v = over_before_by (kept_in v) v
 
 abbrev pub over_if : Bool → Values → Planned
 over_if true v = over v
@@ -133,3 +129,14 @@ is_assignment (prims.HyphenData kind) = true
 is_assignment (prims.Arithmetic kind) = true
 is_assignment (prims.Interaction kind) = true
 is_assignment _ = false
+
+-- the definition that a command is, if it is one
+unfoldable pub definition_of : Primitive → Option DefKind
+definition_of (prims.Def kind) = Some kind
+definition_of _ = None
+
+-- what a command is to the prefixes before it: \relax is skipped, and a prefix is one more
+unfoldable pub follower_of : Primitive → Behind
+follower_of prims.Relax = behind.Nothing
+follower_of (prims.Prefix kind) = behind.Prefix kind
+follower_of _ = behind.Command

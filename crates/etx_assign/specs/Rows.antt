@@ -13,6 +13,7 @@ use Rattle.etx_prims.specs.declared.assignments.DefKind.{DefKind}
 use Rattle.etx_prims.specs.declared.assignments.DefKind.TheVariants as defs
 use Rattle.etx_prims.specs.declared.assignments.LetKind.{LetKind}
 use Rattle.etx_prims.specs.declared.assignments.LetKind.TheVariants as lets
+use Rattle.etx_prims.specs.declared.quantities.CodeKind.{CodeKind}
 use Rattle.etx_prims.specs.declared.quantities.CodeKind.TheVariants as kinds
 use Rattle.etx_state.specs.declared.key.Key.TheVariants as key
 use Rattle.etx_state.specs.declared.key.Val.TheVariants as val
@@ -25,7 +26,7 @@ use Rattle.etx_state.specs.declared.scan.Scan.TheVariants as scan
 use Rattle.etx_state.specs.declared.scan.Keeper.TheVariants as keeper
 use Rattle.etx_state.specs.Macros.{MacroState}
 use Rattle.etx_state.specs.Values.{Values, change, noted}
-use Rattle.etx_state.specs.States.{Mouth}
+use Rattle.etx_state.specs.States.{Mouth, kept_in}
 use Rattle.etx_expand.specs.declared.plan.Push.TheVariants.{Nothing, Begin}
 use Rattle.etx_expand.specs.declared.plan.Failure.{Failure}
 use Rattle.etx_expand.specs.declared.plan.Move.{Move}
@@ -34,7 +35,11 @@ use Rattle.etx_expand.specs.declared.row.Brace.{Brace}
 use Rattle.etx_expand.specs.declared.row.Brace.TheVariants.{Left, Right, Neither}
 use Rattle.etx_expand.specs.Turn.{is_blank, has_category, brace_of, failure_into, failure_under}
 use Rattle.etx_expand.specs.Printing.{printed, escape_in, shown_name}
-use Rattle.etx_assign.specs.Assignments.{Planned, planned, key_of, assigned, is_global_in, is_global_def_in, over, over_if, kept_token, without_kept, with_prefix, is_for_definitions, is_assignment}
+use Rattle.etx_assign.specs.declared.prefix.Behind.{Behind}
+use Rattle.etx_assign.specs.declared.prefix.Behind.TheVariants as behind
+use Rattle.etx_assign.specs.declared.naming.Target.{Target}
+use Rattle.etx_assign.specs.declared.naming.Target.TheVariants.{Blank, Given, Missing}
+use Rattle.etx_assign.specs.Assignments.{Planned, planned, key_of, assigned, is_global_in, is_global_def_in, over, over_if, without_kept, with_prefix, is_for_definitions, is_assignment, definition_of, follower_of}
 
 -- ---- prefixes, and the beginning of an assignment
 
@@ -59,27 +64,32 @@ character_words cat =
     else if cat == 11 then codes "the letter "
     else codes "the character "
 
--- what a token that isn't expanded is, in an error
-abbrev pub shown_meaning : Mouth → Token → Meaning → List ℕ
-shown_meaning m t (means.Primitive p) = shown_primitive m.values p
-shown_meaning m t (means.Char code cat) = codes "`" ++ character_words cat ++ printed m.values (code ∷ []) ++ codes "'"
-shown_meaning m t _ = shown_name m t
+-- a character, in an error
+abbrev pub shown_character : Values → ℕ → ℕ → List ℕ
+shown_character v code cat = codes "`" ++ character_words cat ++ printed v (code ∷ []) ++ codes "'"
 
 -- a definition is global where its prefixes, its name or \globaldefs say so
+abbrev pub named_begun : Bool → Bool → Prefixes → Values → Move
+named_begun always is_expanded p v = Used (Begin (scan.DefName (record p { is_global = is_global_def_in v p.is_global always }) is_expanded))
+
 abbrev pub def_begun : DefKind → Prefixes → Values → Move
-def_begun defs.Def p v = Used (Begin (scan.DefName (record p { is_global = is_global_def_in v p.is_global false }) false))
-def_begun defs.GDef p v = Used (Begin (scan.DefName (record p { is_global = is_global_def_in v p.is_global true }) false))
-def_begun defs.EDef p v = Used (Begin (scan.DefName (record p { is_global = is_global_def_in v p.is_global false }) true))
-def_begun defs.XDef p v = Used (Begin (scan.DefName (record p { is_global = is_global_def_in v p.is_global true }) true))
+def_begun defs.Def p v = named_begun false false p v
+def_begun defs.GDef p v = named_begun true false p v
+def_begun defs.EDef p v = named_begun false true p v
+def_begun defs.XDef p v = named_begun true true p v
 
 abbrev pub let_begun : LetKind → Bool → Move
 let_begun lets.Let is_global = Used (Begin (scan.LetName is_global false))
 let_begun lets.FutureLet is_global = Used (Begin (scan.LetName is_global true))
 
+abbrev pub code_begun : CodeKind → Bool → Move
+code_begun kinds.Cat is_global = Used (Begin (scan.CatcodeQuote is_global))
+code_begun _ is_global = Ends Unbuilt
+
 -- an assignment that takes \global alone
-abbrev pub simple_begun : Primitive → Bool → Move
+unfoldable pub simple_begun : Primitive → Bool → Move
 simple_begun (prims.Let kind) is_global = let_begun kind is_global
-simple_begun (prims.Code kinds.Cat) is_global = Used (Begin (scan.CatcodeQuote is_global))
+simple_begun (prims.Code kind) is_global = code_begun kind is_global
 simple_begun _ is_global = Ends Unbuilt
 
 -- the prefixes that only a definition takes are dropped with an error, and the command is read again
@@ -89,44 +99,67 @@ left_prefixes p = if p.is_global then Some (scan.Prefix (record { is_long = fals
 abbrev pub irrelevant : List ℕ → Prefixes → Move
 irrelevant what p = Fails (record { text = prefix_text what; scan = left_prefixes p; is_back = true; inserted = [] })
 
+abbrev pub other_begun : Primitive → Prefixes → Values → Move
+other_begun primitive p v = if is_for_definitions p then irrelevant (shown_primitive v primitive) p else simple_begun primitive (is_global_in v p.is_global)
+
+abbrev pub begun_by : Option DefKind → Primitive → Prefixes → Values → Move
+begun_by (Some kind) primitive p v = def_begun kind p v
+begun_by None primitive p v = other_begun primitive p v
+
 -- what an assignment begins, behind these prefixes
 unfoldable pub assignment_begun : Primitive → Prefixes → Values → Move
-assignment_begun (prims.Def kind) p v = def_begun kind p v
-assignment_begun primitive p v = if is_for_definitions p then irrelevant (shown_primitive v primitive) p else simple_begun primitive (is_global_in v p.is_global)
+assignment_begun primitive p v = begun_by (definition_of primitive) primitive p v
 
-abbrev pub prefixed_by : Prefixes → Token → Meaning → Primitive → Mouth → Move
-prefixed_by p t mm primitive m = if is_assignment primitive then assignment_begun primitive p m.values else failure_under (prefix_text (shown_meaning m t mm)) []
+-- what takes no prefix is read again, behind an error
+abbrev pub prefix_refused : List ℕ → Move
+prefix_refused what = failure_under (prefix_text what) []
 
--- prefixes wait for an assignment, over spaces and \relax
+abbrev pub prefixed_by : Prefixes → Primitive → Values → Move
+prefixed_by p primitive v = if is_assignment primitive then assignment_begun primitive p v else prefix_refused (shown_primitive v primitive)
+
+abbrev pub behind_by : Behind → Prefixes → Primitive → Values → Move
+behind_by behind.Nothing p primitive v = Stay (scan.Prefix p) Nothing
+behind_by (behind.Prefix kind) p primitive v = Stay (scan.Prefix (with_prefix kind p)) Nothing
+behind_by behind.Command p primitive v = prefixed_by p primitive v
+
+-- a command behind prefixes
+abbrev pub command_behind_prefixes : Prefixes → Primitive → Values → Move
+command_behind_prefixes p primitive v = behind_by (follower_of primitive) p primitive v
+
+abbrev pub character_behind_prefixes : Prefixes → ℕ → ℕ → Values → Move
+character_behind_prefixes p code cat v = if cat == 10 then Stay (scan.Prefix p) Nothing else prefix_refused (shown_character v code cat)
+
+-- prefixes wait for an assignment; spaces are skipped
 unfoldable pub prefix_row : Prefixes → Token → Meaning → Mouth → Move
-prefix_row p t (means.Char code cat) m = if cat == 10 then Stay (scan.Prefix p) Nothing else failure_under (prefix_text (shown_meaning m t (means.Char code cat))) []
-prefix_row p t (means.Primitive prims.Relax) m = Stay (scan.Prefix p) Nothing
-prefix_row p t (means.Primitive (prims.Prefix kind)) m = Stay (scan.Prefix (with_prefix kind p)) Nothing
-prefix_row p t (means.Primitive primitive) m = prefixed_by p t (means.Primitive primitive) primitive m
-prefix_row p t mm m = failure_under (prefix_text (shown_meaning m t mm)) []
+prefix_row p t (means.Char code cat) m = character_behind_prefixes p code cat m.values
+prefix_row p t (means.Primitive primitive) m = command_behind_prefixes p primitive m.values
+prefix_row p t means.Undefined m = prefix_refused (shown_name m t)
+prefix_row p t (means.Macro macro) m = prefix_refused (shown_name m t)
 
 -- ---- definitions
 
-abbrev pub is_control_sequence : Token → Bool
-is_control_sequence (Name n) = true
-is_control_sequence (Char code cat) = cat == 13
-is_control_sequence (Param n) = false
+-- What a token is where a control sequence is to be defined: a space as the lexer makes it, a control sequence, which an
+-- active character is too, or neither.
+unfoldable pub target_of : Token → Target
+target_of (Char code cat) = if (code == 32) && (cat == 10) then Blank else if cat == 13 then Given else Missing
+target_of (Name n) = Given
+target_of (Param n) = Missing
 
 -- the control sequence that takes what the source names no other for
 abbrev pub inaccessible : Token
-inaccessible = Name (record { f0 = 1048576 })
+inaccessible = Name (record { 0 = 1048576 })
 
 abbrev pub missing_name : List ℕ
 missing_name = codes "Missing control sequence inserted"
 
--- Spaces as the lexer makes them are skipped before the control sequence that is defined.
-unfoldable pub name_row : Scan → (Token → Scan) → Token → Move
-name_row again named (Char code cat) =
-    if (code == 32) && (cat == 10) then Stay again Nothing
-    else if cat == 13 then Used (Begin (named (Char code cat)))
-    else failure_into missing_name (named inaccessible)
-name_row again named (Name n) = Used (Begin (named (Name n)))
-name_row again named (Param n) = failure_into missing_name (named inaccessible)
+-- spaces are skipped before the control sequence that is defined
+abbrev pub named_by : Target → Scan → (Token → Scan) → Token → Move
+named_by Blank again named t = Stay again Nothing
+named_by Given again named t = Used (Begin (named t))
+named_by Missing again named t = failure_into missing_name (named inaccessible)
+
+abbrev pub name_row : Scan → (Token → Scan) → Token → Move
+name_row again named t = named_by (target_of t) again named t
 
 abbrev pub begun_definition : Prefixes → Bool → Token → Definition
 begun_definition p is_expanded name = record { prefixes = p; is_expanded = is_expanded; name = name; params = []; count = 0; brace = None }
@@ -168,13 +201,16 @@ defined d body v = assigned d.prefixes.is_global (key_of d.name) (val.Means (mea
 unfoldable pub definition_over : Definition → List Token → Values → Planned
 definition_over d body v = over (defined d body v)
 
--- an error ends a definition with an empty body
-abbrev pub failed_over_by : Option Token → Values → Planned
-failed_over_by None v = planned v (Fails (record { text = codes "Missing { inserted"; scan = None; is_back = false; inserted = [] }))
-failed_over_by (Some t) v = planned (without_kept v) (Fails (record { text = codes "Missing { inserted"; scan = None; is_back = false; inserted = t ∷ [] }))
+-- an error ends a definition with an empty body, and this is read next
+abbrev pub without_body : List Token → Move
+without_body ts = Fails (record { text = codes "Missing { inserted"; scan = None; is_back = false; inserted = ts })
 
-abbrev pub failed_over : Values → Planned
-failed_over v = failed_over_by (kept_token v) v
+abbrev pub failed_over_by : Option Token → Values → Planned
+failed_over_by None v = planned v (without_body [])
+failed_over_by (Some t) v = planned (without_kept v) (without_body (t ∷ []))
+
+unfoldable pub failed_over : Values → Planned
+failed_over v = failed_over_by (kept_in v) v
 
 -- the code of a character of category 6, which a token means
 abbrev pub mark_of : Meaning → Option ℕ
@@ -210,11 +246,14 @@ ended_by_brace code t d = record d { params = d.params ++ Char code 6 ∷ t ∷ 
 abbrev pub ninth_failure : Definition → Move
 ninth_failure d = Fails (record { text = codes "You already have nine parameters"; scan = Some (in_params d None); is_back = false; inserted = [] })
 
-abbrev pub number_row : ℕ → Definition → Token → Move
-number_row code d t =
-    if nat_le 9 d.count then ninth_failure d
-    else if is_digit_token (d.count + 1) t then Copied (in_params (with_parameter code d) None)
+-- a parameter has its number behind its character; where another token stands there, the number is inserted
+abbrev pub numbered_row : ℕ → Definition → Token → Move
+numbered_row code d t =
+    if is_digit_token (d.count + 1) t then Copied (in_params (with_parameter code d) None)
     else failure_into (codes "Parameters must be numbered consecutively") (in_params (with_parameter code d) None)
+
+abbrev pub number_row : ℕ → Definition → Token → Move
+number_row code d t = if nat_le 9 d.count then ninth_failure d else numbered_row code d t
 
 -- behind a character of category 6: a left brace ends the parameter text, and the body too
 abbrev pub behind_mark_row : Brace → ℕ → Definition → Token → Move
@@ -241,14 +280,24 @@ body_by Right d depth body t mm v = if depth == 0 then definition_over d body v 
 body_by Neither d depth body t mm v = planned v (body_or_mark d depth body t (mark_of mm))
 
 -- the number of a parameter that the definition has
+abbrev pub is_parameter : ℕ → ℕ → Bool
+is_parameter count code = nat_le 49 code && nat_le code (48 + count)
+
 abbrev pub parameter_in : ℕ → Token → Option ℕ
-parameter_in count (Char code cat) = if (cat == 12) && nat_le 49 code && nat_le code (48 + count) then Some (code - 48) else None
+parameter_in count (Char code cat) = if (cat == 12) && is_parameter count code then Some (code - 48) else None
 parameter_in count (Name n) = None
 parameter_in count (Param n) = None
 
+abbrev pub illegal_text : List ℕ → List ℕ
+illegal_text name = codes "Illegal parameter number in definition of " ++ name
+
+-- the character of category 6 is copied, and what stands behind it is read again
+abbrev pub number_refused : Definition → ℕ → List Token → Token → Mouth → Move
+number_refused d depth body s m = failure_into (illegal_text (shown_name m d.name)) (in_body d depth (body ++ s ∷ []) None)
+
 abbrev pub parameter_by : Option ℕ → Definition → ℕ → List Token → Token → Token → Mouth → Move
 parameter_by (Some n) d depth body s t m = body_goes_on d depth body (Param n)
-parameter_by None d depth body s t m = failure_into (codes "Illegal parameter number in definition of " ++ shown_name m d.name) (in_body d depth (body ++ s ∷ []) None)
+parameter_by None d depth body s t m = number_refused d depth body s m
 
 -- behind a character of category 6 in a body: a second one stands for itself, and a digit for a parameter
 abbrev pub behind_mark_in_body : Option ℕ → Definition → ℕ → List Token → Token → Token → Mouth → Move
@@ -296,13 +345,19 @@ is_other wanted (Param n) = false
 unfoldable pub quote_row : Bool → Token → Move
 quote_row is_global t = if is_other 96 t then Used (Begin (scan.CatcodeCharacter is_global)) else Ends Unbuilt
 
-abbrev pub only_code : Option (List ℕ) → Option ℕ
-only_code (Some (code ∷ [])) = Some code
-only_code _ = None
+-- the character that is a whole text
+unfoldable pub only_code : List ℕ → Option ℕ
+only_code [] = None
+only_code (code ∷ []) = Some code
+only_code (code ∷ other ∷ others) = None
+
+abbrev pub only_code_in : Option (List ℕ) → Option ℕ
+only_code_in None = None
+only_code_in (Some text) = only_code text
 
 abbrev pub constant_of : List (List ℕ) → Token → Option ℕ
 constant_of names (Char code cat) = Some code
-constant_of names (Name n) = only_code (slice_get names n.0)
+constant_of names (Name n) = only_code_in (slice_get names n.0)
 constant_of names (Param n) = None
 
 abbrev pub character_by : Bool → Option ℕ → Move
@@ -331,19 +386,22 @@ code_equals_row is_global code t = if is_other 61 t then Used (Begin (scan.Catco
 unfoldable pub category_over : Bool → ℕ → ℕ → Meaning → Values → Planned
 category_over is_global code category mm v = over_if (has_category 10 mm) (assigned is_global (key.Category code) (val.Category category) v)
 
+abbrev pub two_digits : Bool → ℕ → ℕ → Move
+two_digits is_global code number = if nat_le number 15 then Used (Begin (scan.CatcodeSpace is_global code number)) else Ends Unbuilt
+
 abbrev pub second_by : Bool → ℕ → ℕ → Option ℕ → Meaning → Values → Planned
 second_by is_global code first None mm v = category_over is_global code first mm v
-second_by is_global code first (Some digit) mm v = planned v (if nat_le (10 * first + digit) 15 then Used (Begin (scan.CatcodeSpace is_global code (10 * first + digit))) else Ends Unbuilt)
+second_by is_global code first (Some digit) mm v = planned v (two_digits is_global code (10 * first + digit))
 
 unfoldable pub second_digit_row : Bool → ℕ → ℕ → Token → Meaning → Values → Planned
 second_digit_row is_global code first t mm v = second_by is_global code first (digit_of t) mm v
 
-abbrev pub behind_by : Bool → ℕ → ℕ → Option ℕ → Meaning → Values → Planned
-behind_by is_global code category None mm v = category_over is_global code category mm v
-behind_by is_global code category (Some digit) mm v = planned v (Ends Unbuilt)
+abbrev pub behind_digits_by : Bool → ℕ → ℕ → Option ℕ → Meaning → Values → Planned
+behind_digits_by is_global code category None mm v = category_over is_global code category mm v
+behind_digits_by is_global code category (Some digit) mm v = planned v (Ends Unbuilt)
 
 unfoldable pub behind_digits_row : Bool → ℕ → ℕ → Token → Meaning → Values → Planned
-behind_digits_row is_global code category t mm v = behind_by is_global code category (digit_of t) mm v
+behind_digits_row is_global code category t mm v = behind_digits_by is_global code category (digit_of t) mm v
 
 -- ---- a line for each scan of an assignment
 

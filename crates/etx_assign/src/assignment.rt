@@ -2,12 +2,12 @@
 ghost use Rattle.std.specs.Prelude.{◌≡◌, ◌∷◌, [], OnOk, IfOk};
 ghost use Rattle.etx_state.specs.Fits.{Fits};
 ghost use Rattle.etx_state.specs.States.{mouth_of, with_values};
-ghost use Rattle.etx_assign.specs.Assignments.{key_of, assigned, kept_token, without_kept, over, over_before, over_if, is_global_in, is_global_def_in};
+ghost use Rattle.etx_assign.specs.Assignments.{key_of, assigned, without_kept, over, over_before, over_if, is_global_in, is_global_def_in};
 
+use crate::failure::one;
 use etx_expand::{Move, Push};
 use etx_groups::{assign, assign_global};
-use etx_input::SharedTokens;
-use etx_matter::{Token, Tokens};
+use etx_matter::Token;
 use etx_prims::IntParam;
 use etx_state::{Key, State, Val};
 use std::alloc::AllocError;
@@ -61,38 +61,12 @@ pub(crate) fn is_global_def(s: &State, by_prefix: bool, always: bool) -> bool
     }
 }
 
-/// The token that `\afterassignment` keeps.
-#[tactic(auto, unfolding(crate::specs::Assignments::kept_token))]
-pub(crate) fn kept(s: &State) -> Option<Token>
-    ensures { result ≡ kept_token (mouth_of s.now).values }
-{
-    match s.get(Key::AfterAssignment) {
-        Val::Kept(token) => *token,
-        _ => None,
-    }
-}
-
-/// It is kept no longer.
+/// `\afterassignment` keeps a token no longer.
 #[tactic(auto, unfolding(crate::specs::Assignments::without_kept))]
 pub(crate) fn drop_kept(s: &mut State) -> Result<(), AllocError>
     ensures { OnOk result (mouth_of s.new ≡ with_values (without_kept (mouth_of s.old).values) (mouth_of s.old)) }
 {
     s.set(Key::AfterAssignment, Val::Kept(None))
-}
-
-/// One token as a text.
-pub(crate) fn one(s: &State, token: Token) -> Result<SharedTokens, AllocError>
-    ensures { IfOk result (λ it. it ≡ token ∷ []) }
-{
-    let tokens = Tokens::from_slice(s.alloc(), &[token])?;
-    SharedTokens::new(s.alloc(), tokens)
-}
-
-/// No tokens as a text.
-pub(crate) fn none(s: &State) -> Result<SharedTokens, AllocError>
-    ensures { IfOk result (λ it. it ≡ []) }
-{
-    SharedTokens::new(s.alloc(), Tokens::new(s.alloc()))
 }
 
 /// An assignment is over, whose last token is used up.
@@ -101,11 +75,12 @@ pub(crate) fn end_used(s: &mut State) -> Result<Move, AllocError>
     ensures now { OnOk result (mouth_of s.new ≡ with_values (over (mouth_of s.old).values).values (mouth_of s.old)) }
     ensures go { IfOk result (λ go. go ≡ (over (mouth_of s.old).values).go) }
 {
-    match kept(s) {
+    match s.after_assignment() {
         None => Ok(Move::Used(Push::Nothing)),
         Some(token) => {
             drop_kept(s)?;
-            Ok(Move::Used(Push::Text(one(s, token)?)))
+            let text = one(s, token)?;
+            Ok(Move::Used(Push::Text(text)))
         }
     }
 }
@@ -116,7 +91,7 @@ fn end_back(s: &mut State) -> Result<Move, AllocError>
     ensures now { OnOk result (mouth_of s.new ≡ with_values (over_before (mouth_of s.old).values).values (mouth_of s.old)) }
     ensures go { IfOk result (λ go. go ≡ (over_before (mouth_of s.old).values).go) }
 {
-    match kept(s) {
+    match s.after_assignment() {
         None => Ok(Move::Back),
         Some(token) => {
             drop_kept(s)?;

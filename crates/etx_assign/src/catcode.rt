@@ -1,12 +1,12 @@
 //! `\catcode`, in the form in which it is built so far: a backquote, a character or a name of one character, perhaps `=`,
 //! one or two decimal digits of value at most 15, and perhaps a space.
-ghost use Rattle.std.specs.Prelude.{◌≡◌, ◌<◌, OnOk, IfOk, MatchOption};
+ghost use Rattle.std.specs.Prelude.{◌≡◌, ◌<◌, slice_get, OnOk, IfOk, MatchOption};
 ghost use Rattle.etx_state.specs.States.{mouth_of, with_values};
-ghost use Rattle.etx_assign.specs.Rows.{is_other, quote_row, only_code, constant_of, character_row, digit_of, first_digit_row, code_equals_row, category_over, second_digit_row, behind_digits_row};
+ghost use Rattle.etx_assign.specs.Rows.{is_other, quote_row, only_code, only_code_in, constant_of, character_row, digit_of, first_digit_row, code_equals_row, category_over, two_digits, second_digit_row, behind_digits_row};
 
 use crate::assignment::{end, set};
 use etx_expand::{Move, Push, has_category};
-use etx_matter::{Category, End, Token};
+use etx_matter::{Category, End, NameId, Token};
 use etx_state::{Key, Meaning, Scan, State, Val};
 use std::alloc::AllocError;
 
@@ -15,7 +15,8 @@ fn is_other(wanted: u8, token: Token) -> bool
 {
     match token {
         Token::Char { code, cat } => code == wanted && cat == 12,
-        Token::Name(_) | Token::Param(_) => false,
+        Token::Name(_) => false,
+        Token::Param(_) => false,
     }
 }
 
@@ -37,16 +38,31 @@ pub(crate) fn quote(is_global: bool, token: Token) -> Move
     }
 }
 
+/// The character that is a whole text.
+#[tactic(auto, unfolding(crate::specs::Rows::only_code))]
+fn only_code(text: &[u8]) -> Option<u8>
+    ensures { result ≡ only_code text.now }
+{
+    if text.len() == 1 { Some(text[0]) } else { None }
+}
+
+/// The code of a name of one character.
+fn code_of_name(s: &State, name: NameId) -> Option<u8>
+    ensures { result ≡ only_code_in (slice_get (mouth_of s.now).names name.0) }
+{
+    match s.name_text(name) {
+        None => None,
+        Some(text) => only_code(text),
+    }
+}
+
 /// The code that a token stands for behind a backquote.
 fn constant(s: &State, token: Token) -> Option<u8>
     ensures { result ≡ constant_of (mouth_of s.now).names token }
 {
     match token {
         Token::Char { code, .. } => Some(code),
-        Token::Name(name) => match s.name_text(name) {
-            Some([code]) => Some(*code),
-            _ => None,
-        },
+        Token::Name(name) => code_of_name(s, name),
         Token::Param(_) => None,
     }
 }
@@ -74,7 +90,8 @@ fn digit(token: Token) -> Option<u8>
                 None
             }
         }
-        Token::Name(_) | Token::Param(_) => None,
+        Token::Name(_) => None,
+        Token::Param(_) => None,
     }
 }
 
@@ -126,6 +143,21 @@ fn set_category(
     end(s, has_category(10, meaning))
 }
 
+/// A category of two digits. One above 15 is still to come.
+fn two_digits(is_global: bool, code: u8, number: u8) -> Move
+    ensures { result ≡ two_digits is_global code number }
+{
+    if number <= 15 {
+        Move::Used(Push::Begin(Scan::CatcodeSpace {
+            is_global,
+            code,
+            category: Category::new(number),
+        }))
+    } else {
+        end_unbuilt()
+    }
+}
+
 /// The second digit, or what follows the first.
 #[tactic(auto, unfolding(crate::specs::Rows::second_digit_row))]
 pub(crate) fn second_digit(
@@ -140,18 +172,7 @@ pub(crate) fn second_digit(
     ensures go { IfOk result (λ go. go ≡ (second_digit_row is_global code first token meaning.now (mouth_of s.old).values).go) }
 {
     match digit(token) {
-        Some(digit) => {
-            let number = 10 * first.number() + digit;
-            if number <= 15 {
-                Ok(Move::Used(Push::Begin(Scan::CatcodeSpace {
-                    is_global,
-                    code,
-                    category: Category::new(number),
-                })))
-            } else {
-                Ok(end_unbuilt())
-            }
-        }
+        Some(digit) => Ok(two_digits(is_global, code, 10 * first.number() + digit)),
         None => set_category(s, is_global, code, first, meaning),
     }
 }

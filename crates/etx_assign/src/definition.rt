@@ -1,13 +1,14 @@
-//! Definitions of macros: the control sequence, the parameter text, and the body.
-ghost use Rattle.std.specs.Prelude.{◌≡◌, ◌∷◌, [], ◌++◌, ◌+◌, OnOk, IfOk};
+//! Definitions of macros: the parameter text, and the macro that is made.
+ghost use Rattle.std.specs.Prelude.{◌≡◌, ◌∷◌, [], ◌++◌, ◌<◌, ◌≤◌, OnOk, IfOk, None};
 ghost use Rattle.etx_state.specs.States.{mouth_of, with_values};
-ghost use Rattle.etx_assign.specs.Rows.{mark_of, digit_token, is_digit_token, with_parameter, ended_by_brace, number_row, behind_mark_row, params_row, with_params, text_or_mark, macro_of, defined, definition_over, failed_over, parameter_in, parameter_by, behind_mark_in_body, body_row, body_goes_on};
-ghost use Rattle.etx_expand.specs.Turn.{brace_of, failure_into};
+ghost use Rattle.etx_macros.specs.ParameterText.{pattern_of};
+ghost use Rattle.etx_expand.specs.Turn.{brace_of};
+ghost use Rattle.etx_assign.specs.Rows.{mark_of, digit_token, is_digit_token, with_parameter, ended_by_brace, ninth_failure, numbered_row, number_row, behind_mark_row, params_by, params_row, in_body, with_params, text_or_mark, parts_or_none, brace_of_definition, macro_of, defined, definition_over, without_body, failed_over};
 
-use crate::assignment::{drop_kept, end_used, kept, key, none, one, set};
-use etx_expand::{Brace, Failure, Move, Push, brace, push_name};
+use crate::assignment::{drop_kept, end_used, key, set};
+use crate::failure::{fail_into, fail_past, none, one};
+use etx_expand::{Brace, Move, Push, brace_of};
 use etx_input::SharedTokens;
-use etx_lists::Bytes;
 use etx_macros::{Pattern, PatternFault};
 use etx_matter::{Token, Tokens};
 use etx_state::{Definition, Macro, Meaning, Scan, State, Val};
@@ -17,7 +18,7 @@ use std::alloc::AllocError;
 const MOST_PARAMETERS: u8 = 9;
 
 /// The code of a character of category 6, if a token means one.
-fn mark(meaning: &Meaning) -> Option<u8>
+pub(crate) fn mark(meaning: &Meaning) -> Option<u8>
     ensures { result ≡ mark_of meaning.now }
 {
     match meaning {
@@ -32,41 +33,69 @@ fn mark(meaning: &Meaning) -> Option<u8>
     }
 }
 
-/// A pattern of a parameter text. The scan of a parameter text leaves no fault in it.
-fn pattern(s: &State, params: &Tokens) -> Result<Pattern, AllocError> {
+/// The parts of an empty parameter text.
+#[tactic(auto, unfolding(etx_macros::specs::ParameterText::parts_of))]
+fn no_pattern(s: &State) -> Result<Pattern, AllocError>
+    ensures { IfOk result (λ pattern. pattern.parts ≡ [] ∷ []) }
+{
+    match Pattern::read(s.alloc(), &Tokens::new(s.alloc())) {
+        Ok(pattern) => Ok(pattern),
+        Err(_) => Err(AllocError),
+    }
+}
+
+/// The parts of a parameter text, in which the scan of a parameter text leaves no fault.
+fn pattern(s: &State, params: &Tokens) -> Result<Pattern, AllocError>
+    ensures { IfOk result (λ pattern. pattern.parts ≡ parts_or_none (pattern_of params.now)) }
+{
     match Pattern::read(s.alloc(), params) {
         Ok(pattern) => Ok(pattern),
-        Err(PatternFault::OutOfMemory) => Err(AllocError),
-        Err(PatternFault::BadNumber | PatternFault::TooManyParameters) => {
-            match Pattern::read(s.alloc(), &Tokens::new(s.alloc())) {
-                Ok(pattern) => Ok(pattern),
-                Err(_) => Err(AllocError),
-            }
+        Err(fault) => match fault {
+            PatternFault::OutOfMemory => Err(AllocError),
+            PatternFault::BadNumber => no_pattern(s),
+            PatternFault::TooManyParameters => no_pattern(s),
+        },
+    }
+}
+
+/// The brace that ended the parameter text ends the body too.
+fn with_brace(mut body: Tokens, brace: Option<Token>) -> Result<Tokens, AllocError>
+    ensures { IfOk result (λ it. it ≡ body ++ brace_of_definition brace) }
+{
+    match brace {
+        None => Ok(body),
+        Some(brace) => {
+            body.push(brace)?;
+            Ok(body)
         }
     }
 }
 
-/// Makes the macro, and gives the control sequence its meaning.
-fn define(s: &mut State, definition: Definition, mut body: Tokens) -> Result<(), AllocError>
-    ensures { OnOk result (mouth_of s.new ≡ with_values (defined definition body (mouth_of s.old).values) (mouth_of s.old)) }
+/// The macro that a definition makes of a body.
+fn make_macro(s: &State, definition: &Definition, body: Tokens) -> Result<Macro, AllocError>
+    ensures { IfOk result (λ it. it ≡ macro_of definition.now body) }
 {
-    if let Some(brace) = definition.brace {
-        body.push(brace)?;
-    }
+    let body = with_brace(body, definition.brace)?;
     let pattern = pattern(s, &definition.params)?;
     let body = SharedTokens::new(s.alloc(), body)?;
-    let prefixes = definition.prefixes;
-    let made = Macro::new(
+    Macro::new(
         s.alloc(),
         pattern,
         body,
-        prefixes.is_long,
-        prefixes.is_outer,
-        prefixes.is_protected,
-    )?;
+        definition.prefixes.is_long,
+        definition.prefixes.is_outer,
+        definition.prefixes.is_protected,
+    )
+}
+
+/// Makes the macro, and gives the control sequence its meaning.
+fn define(s: &mut State, definition: Definition, body: Tokens) -> Result<(), AllocError>
+    ensures { OnOk result (mouth_of s.new ≡ with_values (defined definition body (mouth_of s.old).values) (mouth_of s.old)) }
+{
+    let made = make_macro(s, &definition, body)?;
     set(
         s,
-        prefixes.is_global,
+        definition.prefixes.is_global,
         key(definition.name),
         Val::Means(Meaning::Macro(made)),
     )
@@ -74,7 +103,7 @@ fn define(s: &mut State, definition: Definition, mut body: Tokens) -> Result<(),
 
 /// A definition is over.
 #[tactic(auto, unfolding(crate::specs::Rows::definition_over))]
-fn end_definition(
+pub(crate) fn end_definition(
     s: &mut State,
     definition: Definition,
     body: Tokens,
@@ -86,6 +115,32 @@ fn end_definition(
     end_used(s)
 }
 
+/// The error about a body that is missing; this is read next.
+fn fail_without_body(s: &State, inserted: SharedTokens) -> Result<Move, AllocError>
+    ensures { IfOk result (λ go. go ≡ without_body inserted) }
+{
+    fail_past(s, b"Missing { inserted", None, inserted)
+}
+
+/// A definition is over, with an error.
+#[tactic(auto, unfolding(crate::specs::Rows::failed_over))]
+fn end_failed(s: &mut State) -> Result<Move, AllocError>
+    ensures now { OnOk result (mouth_of s.new ≡ with_values (failed_over (mouth_of s.old).values).values (mouth_of s.old)) }
+    ensures go { IfOk result (λ go. go ≡ (failed_over (mouth_of s.old).values).go) }
+{
+    match s.after_assignment() {
+        None => {
+            let inserted = none(s)?;
+            fail_without_body(s, inserted)
+        }
+        Some(token) => {
+            drop_kept(s)?;
+            let inserted = one(s, token)?;
+            fail_without_body(s, inserted)
+        }
+    }
+}
+
 /// A right brace stands where a body should begin: the body is empty, with an error.
 fn end_without_body(s: &mut State, definition: Definition) -> Result<Move, AllocError>
     ensures now { OnOk result (mouth_of s.new ≡ with_values (failed_over (defined definition [] (mouth_of s.old).values)).values (mouth_of s.old)) }
@@ -93,20 +148,7 @@ fn end_without_body(s: &mut State, definition: Definition) -> Result<Move, Alloc
 {
     let body = Tokens::new(s.alloc());
     define(s, definition, body)?;
-    let text = Bytes::from_slice(s.alloc(), b"Missing { inserted")?;
-    let inserted = match kept(s) {
-        None => none(s)?,
-        Some(token) => {
-            drop_kept(s)?;
-            one(s, token)?
-        }
-    };
-    Ok(Move::Fails(Failure {
-        text,
-        scan: None,
-        is_back: false,
-        inserted,
-    }))
+    end_failed(s)
 }
 
 /// The digit of this number, as a parameter text and a body have it.
@@ -126,7 +168,8 @@ fn is_digit(number: u8, token: Token) -> bool
 {
     match token {
         Token::Char { code, cat } => code == 48 + number && cat == 12,
-        Token::Name(_) | Token::Param(_) => false,
+        Token::Name(_) => false,
+        Token::Param(_) => false,
     }
 }
 
@@ -162,16 +205,39 @@ fn ended_by_brace(
     Ok(definition)
 }
 
-/// An error after which a scan goes on, and the token is read again.
-fn fail_into(s: &State, text: &[u8], scan: Scan) -> Result<Move, AllocError>
-    ensures { IfOk result (λ go. go ≡ failure_into text.now scan) }
+/// A tenth parameter is dropped.
+fn fail_at_tenth(s: &State, definition: Definition) -> Result<Move, AllocError>
+    ensures { IfOk result (λ go. go ≡ ninth_failure definition) }
 {
-    Ok(Move::Fails(Failure {
-        text: Bytes::from_slice(s.alloc(), text)?,
-        scan: Some(scan),
-        is_back: true,
-        inserted: none(s)?,
-    }))
+    let scan = Scan::DefParams {
+        definition,
+        mark: None,
+    };
+    let inserted = none(s)?;
+    fail_past(s, b"You already have nine parameters", Some(scan), inserted)
+}
+
+/// One parameter more, whose number this token should be.
+fn next_parameter(
+    s: &State,
+    code: u8,
+    definition: Definition,
+    token: Token,
+) -> Result<Move, AllocError>
+    requires { definition.count < 9 }
+    ensures { IfOk result (λ go. go ≡ numbered_row code definition token) }
+{
+    let is_next = is_digit(definition.count + 1, token);
+    let definition = with_parameter(code, definition)?;
+    let scan = Scan::DefParams {
+        definition,
+        mark: None,
+    };
+    if is_next {
+        Ok(Move::Copied(scan))
+    } else {
+        fail_into(s, b"Parameters must be numbered consecutively", scan)
+    }
 }
 
 fn number(
@@ -183,25 +249,10 @@ fn number(
     ensures { IfOk result (λ go. go ≡ number_row code definition token) }
 {
     if definition.count >= MOST_PARAMETERS {
-        return Ok(Move::Fails(Failure {
-            text: Bytes::from_slice(s.alloc(), b"You already have nine parameters")?,
-            scan: Some(Scan::DefParams {
-                definition,
-                mark: None,
-            }),
-            is_back: false,
-            inserted: none(s)?,
-        }));
+        fail_at_tenth(s, definition)
+    } else {
+        next_parameter(s, code, definition, token)
     }
-    let is_next = is_digit(definition.count + 1, token);
-    let scan = Scan::DefParams {
-        definition: with_parameter(code, definition)?,
-        mark: None,
-    };
-    if is_next {
-        return Ok(Move::Copied(scan));
-    }
-    fail_into(s, b"Parameters must be numbered consecutively", scan)
 }
 
 /// A token behind a character of category 6 in a parameter text.
@@ -213,14 +264,25 @@ fn behind_mark(
 ) -> Result<Move, AllocError>
     ensures { IfOk result (λ go. go ≡ behind_mark_row (brace_of token) code definition token) }
 {
-    match brace(token) {
-        Brace::Left => Ok(Move::Copied(Scan::DefBody {
-            definition: ended_by_brace(code, token, definition)?,
-            depth: 0,
-            body: Tokens::new(s.alloc()),
-            mark: None,
-        })),
-        Brace::Right | Brace::Neither => number(s, code, definition, token),
+    match brace_of(token) {
+        Brace::Left => {
+            let definition = ended_by_brace(code, token, definition)?;
+            Ok(Move::Copied(begin_body(s, definition)))
+        }
+        Brace::Right => number(s, code, definition, token),
+        Brace::Neither => number(s, code, definition, token),
+    }
+}
+
+/// The scan of a body.
+fn begin_body(s: &State, definition: Definition) -> Scan
+    ensures { result ≡ in_body definition 0 [] None }
+{
+    Scan::DefBody {
+        definition,
+        depth: 0,
+        body: Tokens::new(s.alloc()),
+        mark: None,
     }
 }
 
@@ -236,10 +298,30 @@ fn text_or_mark(
             Scan::DefParams { definition, mark },
             Push::Nothing,
         )),
-        None => Ok(Move::Copied(Scan::DefParams {
-            definition: with_params(definition, &[token])?,
-            mark: None,
-        })),
+        None => {
+            let definition = with_params(definition, &[token])?;
+            Ok(Move::Copied(Scan::DefParams {
+                definition,
+                mark: None,
+            }))
+        }
+    }
+}
+
+/// A token of a parameter text that stands behind no character of category 6. The first brace ends the text.
+fn first_in_params(
+    s: &mut State,
+    definition: Definition,
+    token: Token,
+    meaning: &Meaning,
+) -> Result<Move, AllocError>
+    ensures now { OnOk result (mouth_of s.new ≡ with_values (params_by (brace_of token) definition token meaning.now (mouth_of s.old).values).values (mouth_of s.old)) }
+    ensures go { IfOk result (λ go. go ≡ (params_by (brace_of token) definition token meaning.now (mouth_of s.old).values).go) }
+{
+    match brace_of(token) {
+        Brace::Left => Ok(Move::Used(Push::Begin(begin_body(s, definition)))),
+        Brace::Right => end_without_body(s, definition),
+        Brace::Neither => text_or_mark(definition, token, mark(meaning)),
     }
 }
 
@@ -255,128 +337,8 @@ pub(crate) fn in_params(
     ensures now { OnOk result (mouth_of s.new ≡ with_values (params_row definition mark_before token meaning.now (mouth_of s.old).values).values (mouth_of s.old)) }
     ensures go { IfOk result (λ go. go ≡ (params_row definition mark_before token meaning.now (mouth_of s.old).values).go) }
 {
-    if let Some(code) = mark_before {
-        return behind_mark(s, code, definition, token);
-    }
-    match brace(token) {
-        Brace::Left => Ok(Move::Used(Push::Begin(Scan::DefBody {
-            definition,
-            depth: 0,
-            body: Tokens::new(s.alloc()),
-            mark: None,
-        }))),
-        Brace::Right => end_without_body(s, definition),
-        Brace::Neither => text_or_mark(definition, token, mark(meaning)),
-    }
-}
-
-/// The number of a parameter that the definition has.
-fn parameter(count: u8, token: Token) -> Option<u8>
-    ensures { result ≡ parameter_in count token }
-{
-    match token {
-        Token::Char { code, cat } => {
-            if cat == 12 && code >= 49 && code - 48 <= count {
-                Some(code - 48)
-            } else {
-                None
-            }
-        }
-        Token::Name(_) | Token::Param(_) => None,
-    }
-}
-
-/// The body goes on with one token more.
-fn go_on(
-    definition: Definition,
-    depth: u32,
-    mut body: Tokens,
-    token: Token,
-) -> Result<Move, AllocError>
-    ensures { IfOk result (λ go. go ≡ body_goes_on definition depth body token) }
-{
-    body.push(token)?;
-    Ok(Move::Copied(Scan::DefBody {
-        definition,
-        depth,
-        body,
-        mark: None,
-    }))
-}
-
-fn number_in_body(
-    s: &State,
-    definition: Definition,
-    depth: u32,
-    mut body: Tokens,
-    mark: Token,
-    token: Token,
-) -> Result<Move, AllocError>
-    ensures { IfOk result (λ go. go ≡ parameter_by (parameter_in definition.count token) definition depth body mark token (mouth_of s.now)) }
-{
-    match parameter(definition.count, token) {
-        Some(number) => go_on(definition, depth, body, Token::Param(number)),
-        None => {
-            let mut text = Bytes::from_slice(
-                s.alloc(),
-                b"Illegal parameter number in definition of ",
-            )?;
-            push_name(s, &mut text, definition.name)?;
-            body.push(mark)?;
-            let scan = Scan::DefBody {
-                definition,
-                depth,
-                body,
-                mark: None,
-            };
-            fail_into(s, text.as_slice(), scan)
-        }
-    }
-}
-
-/// A token of a body.
-#[tactic(auto, unfolding(crate::specs::Rows::body_row))]
-pub(crate) fn in_body(
-    s: &mut State,
-    definition: Definition,
-    depth: u32,
-    body: Tokens,
-    mark_before: Option<Token>,
-    token: Token,
-    meaning: &Meaning,
-) -> Result<Move, AllocError>
-    ensures now { OnOk result (mouth_of s.new ≡ with_values (body_row definition depth body mark_before token meaning.now (mouth_of s.old)).values (mouth_of s.old)) }
-    ensures go { IfOk result (λ go. go ≡ (body_row definition depth body mark_before token meaning.now (mouth_of s.old)).go) }
-{
-    if let Some(before) = mark_before {
-        return match mark(meaning) {
-            Some(_) => go_on(definition, depth, body, token),
-            None => number_in_body(s, definition, depth, body, before, token),
-        };
-    }
-    match brace(token) {
-        Brace::Left => match depth.checked_add(1) {
-            Some(depth) => go_on(definition, depth, body, token),
-            None => Err(AllocError),
-        },
-        Brace::Right => {
-            if depth == 0 {
-                end_definition(s, definition, body)
-            } else {
-                go_on(definition, depth - 1, body, token)
-            }
-        }
-        Brace::Neither => match mark(meaning) {
-            Some(_) => Ok(Move::Stay(
-                Scan::DefBody {
-                    definition,
-                    depth,
-                    body,
-                    mark: Some(token),
-                },
-                Push::Nothing,
-            )),
-            None => go_on(definition, depth, body, token),
-        },
+    match mark_before {
+        None => first_in_params(s, definition, token, meaning),
+        Some(code) => behind_mark(s, code, definition, token),
     }
 }

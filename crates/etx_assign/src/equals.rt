@@ -44,7 +44,8 @@ fn is_equals(token: Token) -> bool
 {
     match token {
         Token::Char { code, cat } => code == b'=' && cat == 12,
-        Token::Name(_) | Token::Param(_) => false,
+        Token::Name(_) => false,
+        Token::Param(_) => false,
     }
 }
 

@@ -7,11 +7,17 @@
 #![tactic(auto)]
 
 mod assignment;
+mod body;
 mod catcode;
 mod definition;
 mod equals;
-mod go;
+mod failure;
+mod naming;
 mod prefix;
+mod turns;
 
-pub use go::go;
 pub use prefix::{begin, is_assignment, no_prefixes, with_prefix};
+pub use turns::go;
+
+#[cfg(test)]
+mod tests;

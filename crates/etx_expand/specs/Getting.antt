@@ -1,9 +1,8 @@
 -- How a token is got: from the input, with its meaning; what an outer macro and the end of a file do in the midst of a scan
 -- ("TeX: The Program", sections 336 to 339, 341 to 362 and 365).
-use Rattle.std.specs.Prelude.{ℕ, ◌+◌, Bool, true, false, not, ◌&&◌, List, [], ◌∷◌, ◌++◌, codes, if◌then◌else◌}
+use Rattle.std.specs.Prelude.{ℕ, List, [], ◌∷◌, ◌++◌, codes, if◌then◌else◌}
 use Rattle.etx_matter.specs.declared.token.Token.{Token}
-use Rattle.etx_matter.specs.declared.token.Token.TheVariants.{Char, Name, Param}
-use Rattle.etx_matter.specs.declared.token.NameId.{NameId}
+use Rattle.etx_matter.specs.declared.token.Token.TheVariants.{Char, Name}
 use Rattle.etx_matter.specs.declared.end.End.TheVariants.{Fatal, Capacity}
 use Rattle.etx_matter.specs.declared.end.FatalError.TheVariants.{NoLegalEnd}
 use Rattle.etx_matter.specs.declared.end.Limit.TheVariants.{Names}
@@ -77,7 +76,7 @@ ending_of (watch.Absorbing name) = Char 125 2 ∷ []
 abbrev pub forbidden : Watch → Token → Mouth → Getting
 forbidden w t m =
     getting (read_next Back (Char 32 10 ∷ []) (read_next Fresh (ending_of w) (put_back t m)))
-      (got.Over (error_deed (codes "Forbidden control sequence found while scanning " ++ watched m w) m))
+    (got.Over (error_deed (codes "Forbidden control sequence found while scanning " ++ watched m w) m))
 
 -- A file that is over in the midst of a scan: the scan gets what ends it.
 abbrev pub file_ended : Watch → Mouth → Getting
@@ -102,17 +101,18 @@ invalid_text = codes "Text line contains an invalid character"
 
 -- a name of a file gets its number
 unfoldable pub name_got : List ℕ → Mouth → Getting
-name_got name m = if has_room name m then token_got (Name (record { f0 = number_of name m })) Fresh (with_name name m) else getting m (got.Over (turned.End (Capacity Names)))
+name_got name m = if has_room name m then token_got (Name (record { 0 = number_of name m })) Fresh (with_name name m) else getting m (got.Over (turned.End (Capacity Names)))
 
+-- a token is a step; a character that is invalid is none
 unfoldable pub lexed_got : Lexed → Mouth → Getting
-lexed_got (lexed.Char code cat) m = token_got (Char code cat) Fresh m
-lexed_got (lexed.Name name) m = name_got name m
+lexed_got (lexed.Char code cat) m = token_got (Char code cat) Fresh (charged 1 m)
+lexed_got (lexed.Name name) m = name_got name (charged 1 m)
 lexed_got (lexed.Invalid code) m = getting m (got.Over (error_deed invalid_text m))
-lexed_got lexed.LineEnd m = getting m (got.Over turned.Again)
+lexed_got lexed.LineEnd m = getting (charged 1 m) (got.Over turned.Again)
 
 abbrev pub next_got : Next → Mouth → Getting
 next_got (next.Listed t origin) m = token_got t origin (charged (charge_of origin) m)
-next_got (next.Lexed x) m = lexed_got x (charged 1 m)
+next_got (next.Lexed x) m = lexed_got x m
 next_got next.FileEnd m = file_ended (watch_of m.scans) m
 next_got next.Over m = getting m (got.Over (turned.End (Fatal NoLegalEnd)))
 

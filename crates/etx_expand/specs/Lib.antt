@@ -3,3 +3,4 @@ pub mod Printing
 pub mod Meanings
 pub mod Getting
 pub mod Turn
+pub mod Measure

@@ -3,7 +3,6 @@ use Rattle.std.specs.Prelude.{ℕ, ◌+◌, ◌-◌, ◌/◌, ◌%◌, ◌==◌,
 use Rattle.etx_lexer.specs.Places.{end_of_line}
 use Rattle.etx_matter.specs.declared.token.Token.{Token}
 use Rattle.etx_matter.specs.declared.token.Token.TheVariants.{Char, Name, Param}
-use Rattle.etx_matter.specs.declared.token.NameId.{NameId}
 use Rattle.etx_prims.specs.declared.parameters.IntParam.TheVariants.{EscapeChar, NewLineChar}
 use Rattle.etx_state.specs.Values.{Values}
 use Rattle.etx_state.specs.States.{Mouth, category_in, int_in}
@@ -49,11 +48,15 @@ abbrev pub escaped : Values → List ℕ → List ℕ
 escaped v [] = escape_in v ++ codes "csname" ++ escape_in v ++ codes "endcsname"
 escaped v (c ∷ cs) = escape_in v ++ c ∷ cs
 
+-- a parameter; a number that no parameter has is shown by an exclamation mark
+abbrev pub parameter_text : ℕ → List ℕ
+parameter_text n = 35 ∷ (if nat_lt n 10 then 48 + n else 33) ∷ []
+
 -- a token's own characters: a control sequence with the escape character, a character as it is
 unfoldable pub spelled : Mouth → Token → List ℕ
 spelled m (Char code cat) = code ∷ []
 spelled m (Name n) = escaped m.values (name_text m.names n.0)
-spelled m (Param n) = 35 ∷ (48 + n) ∷ []
+spelled m (Param n) = parameter_text n
 
 -- a name is followed by a space, unless it is one character that is no letter
 abbrev pub space_behind : Values → List ℕ → List ℕ
@@ -65,7 +68,7 @@ space_behind v (c ∷ d ∷ cs) = 32 ∷ []
 unfoldable pub token_text : Mouth → Token → List ℕ
 token_text m (Char code cat) = if cat == 6 then code ∷ code ∷ [] else code ∷ []
 token_text m (Name n) = escaped m.values (name_text m.names n.0) ++ space_behind m.values (name_text m.names n.0)
-token_text m (Param n) = 35 ∷ (48 + n) ∷ []
+token_text m (Param n) = parameter_text n
 
 abbrev pub tokens_text : Mouth → List Token → List ℕ
 tokens_text m [] = []

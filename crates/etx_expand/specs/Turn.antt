@@ -26,16 +26,19 @@ use Rattle.etx_state.specs.Macros.{MacroState}
 use Rattle.etx_expand.specs.declared.get.Got.{Got}
 use Rattle.etx_expand.specs.declared.get.Got.TheVariants as got
 use Rattle.etx_expand.specs.declared.plan.Push.TheVariants.{Nothing, Begin, Text}
-use Rattle.etx_expand.specs.declared.plan.Failure.{Failure}
 use Rattle.etx_expand.specs.declared.plan.Move.{Move}
 use Rattle.etx_expand.specs.declared.plan.Move.TheVariants.{Used, Stay, Copied, Hold, Unexpanded, Fails, Ends}
 use Rattle.etx_expand.specs.declared.plan.Value.TheVariants.{One, List as Whole}
 use Rattle.etx_expand.specs.declared.plan.Turned.{Turned}
 use Rattle.etx_expand.specs.declared.plan.Turned.TheVariants as turned
+use Rattle.etx_expand.specs.declared.plan.Want.{Want}
+use Rattle.etx_expand.specs.declared.plan.Want.TheVariants as want
+use Rattle.etx_expand.specs.declared.turns.Top.{Top}
+use Rattle.etx_expand.specs.declared.turns.Top.TheVariants as top
 use Rattle.etx_expand.specs.declared.row.Brace.{Brace}
 use Rattle.etx_expand.specs.declared.row.Brace.TheVariants.{Left, Right, Neither}
 use Rattle.etx_expand.specs.Moves.{After, after, moved, entered, scanning, put_back}
-use Rattle.etx_expand.specs.Getting.{Getting, got_of}
+use Rattle.etx_expand.specs.Getting.{got_of}
 use Rattle.etx_expand.specs.Meanings.{is_expandable, is_expanded_by, reading_of}
 use Rattle.etx_expand.specs.Printing.{spelled, character_tokens}
 
@@ -55,10 +58,14 @@ failure_under text ts = Fails (record { text = text; scan = None; is_back = true
 
 -- ---- what an expandable token begins
 
--- A macro without parameters, whose call is its name alone, stands for its body. Other calls are still to come.
+-- a macro without parameters, whose call is its name alone
+abbrev pub is_plain : List (List Token) → Bool
+is_plain ([] ∷ []) = true
+is_plain _ = false
+
+-- Such a macro stands for its body. Other calls are still to come.
 abbrev pub macro_begun : MacroState → Move
-macro_begun record { parts = [] ∷ []; body = body } = Used (Text body)
-macro_begun _ = Ends Unbuilt
+macro_begun m = if is_plain m.parts then Used (Text m.body) else Ends Unbuilt
 
 unfoldable pub primitive_begun : Primitive → Move
 primitive_begun (prims.Expand expands.ExpandAfter) = Used (Begin scan.ExpandAfter)
@@ -81,7 +88,7 @@ relaxed n means.Undefined m = with_values (assign m.values (key.Meaning n) (val.
 relaxed n _ m = m
 
 abbrev pub name_token : List ℕ → Mouth → Token
-name_token name m = Name (record { f0 = number_of name m })
+name_token name m = Name (record { 0 = number_of name m })
 
 unfoldable pub name_made : List ℕ → Mouth → Mouth
 name_made name m = relaxed (number_of name m) (meaning_in (with_name name m).values (number_of name m)) (with_name name m)
@@ -89,14 +96,17 @@ name_made name m = relaxed (number_of name m) (meaning_in (with_name name m).val
 abbrev pub missing_end : List ℕ
 missing_end = codes "Missing \\endcsname inserted"
 
+-- at the end of a name its control sequence is read; where \endcsname didn't end it, what did is read behind it
+abbrev pub name_row : Token → Meaning → Move
+name_row name (means.Primitive prims.EndCsName) = Used (Text (name ∷ []))
+name_row name mm = failure_under missing_end (name ∷ [])
+
 abbrev pub named_turn : Bool → List ℕ → Token → Move → Mouth → After
 named_turn true name t go m = moved t go (name_made name m)
 named_turn false name t go m = after m (turned.End (Capacity Names))
 
--- at the end of a name the control sequence of this name is read
 unfoldable pub name_end_turn : List ℕ → Token → Meaning → Mouth → After
-name_end_turn name t (means.Primitive prims.EndCsName) m = named_turn (has_room name m) name t (Used (Text (name_token name m ∷ []))) m
-name_end_turn name t mm m = named_turn (has_room name m) name t (failure_under missing_end (name_token name m ∷ [])) m
+name_end_turn name t mm m = named_turn (has_room name m) name t (name_row (name_token name m) mm) m
 
 -- a character belongs to the name, whatever its category is, unless it is active
 unfoldable pub cs_name_turn : List ℕ → Token → Meaning → Mouth → After
@@ -145,16 +155,25 @@ text_turn reader depth items t m = text_by (brace_of t) reader depth items t m
 abbrev pub ready : Token → Meaning → Turned
 ready t mm = turned.Ready (One t mm)
 
--- what a scan makes of a token that isn't expanded; a scan of a command stays, and is handed the token
+-- \string gives the characters of a token
+abbrev pub string_turn : Token → Mouth → After
+string_turn t m = moved t (Used (Text (character_tokens (spelled m t)))) m
+
+-- a scan is handed the token, and stays
+abbrev pub handed : Scan → Token → Meaning → Mouth → After
+handed f t mm m = after (scanning f m) (ready t mm)
+
+-- What a scan makes of a token that isn't expanded. The main loop's scan is over with it, and is handed the token; the scans of
+-- other crates are handed the token and stay.
 unfoldable pub scan_turn : Scan → Token → Meaning → Mouth → After
 scan_turn scan.ExpandAfter t mm m = moved t (Hold keeper.ExpandAfter) m
 scan_turn scan.NoExpand t mm m = moved t Unexpanded m
-scan_turn scan.StringOf t mm m = moved t (Used (Text (character_tokens (spelled m t)))) m
+scan_turn scan.StringOf t mm m = string_turn t m
 scan_turn (scan.CsName name) t mm m = cs_name_turn name t mm m
 scan_turn (scan.TextBrace reader) t mm m = moved t (text_brace_row reader mm) m
 scan_turn (scan.Text reader depth items) t mm m = text_turn reader depth items t m
 scan_turn scan.Command t mm m = after m (ready t mm)
-scan_turn f t mm m = after (scanning f m) (ready t mm)
+scan_turn f t mm m = handed f t mm m
 
 -- \expandafter expands the token behind the one that it keeps, and puts that one back before what comes of it
 abbrev pub expand_under : Token → Token → Meaning → Mouth → After
@@ -165,6 +184,14 @@ kept_turn keeper.ExpandAfter kept t mm m = expand_under kept t mm m
 kept_turn (keeper.Future is_global name) kept t mm m = after (entered (entry.Kept kept (keeper.Future is_global name)) m) (ready t mm)
 
 -- ---- the turn
+
+-- what stands on top of a stack
+abbrev pub top_of : List Entry → Top
+top_of [] = top.Nothing
+top_of (entry.Scan f ∷ es) = top.Scan (reading_of f)
+top_of (entry.Kept kept by ∷ es) = top.Kept
+top_of (entry.PutBack t ∷ es) = top.Due
+top_of (entry.Say text is_parted ∷ es) = top.Due
 
 abbrev pub without_top : List Entry → Mouth → Mouth
 without_top es m = with_scans es m
@@ -192,3 +219,8 @@ entry_turn (entry.Say text is_parted ∷ es) m = say_turn text is_parted (withou
 -- a turn of the mouth that has something on its stack
 unfoldable pub turn_of : Mouth → After
 turn_of m = entry_turn m.scans m
+
+-- a wish is put on the stack
+abbrev pub wanted : Want → Mouth → Mouth
+wanted want.Token m = scanning scan.Command m
+wanted (want.Text reader) m = scanning (scan.TextBrace reader) m

@@ -12,11 +12,13 @@ mod moves;
 mod plan;
 mod printing;
 mod row;
-mod turn;
+#[cfg(test)]
+mod tests;
+mod turns;
 
 pub use meaning::{Reading, is_expandable};
-pub use moves::make;
+pub use moves::{make, put_back, read_one};
 pub use plan::{Failure, Move, Push, Turned, Value, Want};
-pub use printing::{push_name, said_text};
-pub use row::Brace;
-pub use turn::{turn, want};
+pub use printing::{push_escaped, push_name, push_printed, said_text};
+pub use row::{Brace, brace_of, has_category};
+pub use turns::{turn, want};

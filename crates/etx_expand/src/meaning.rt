@@ -94,7 +94,7 @@ fn body_reading(is_expanded: bool, mark: Option<Token>) -> Reading
 }
 
 #[tactic(auto, unfolding(crate::specs::Meanings::reading_of))]
-pub(crate) fn reading(scan: &Scan) -> Reading
+pub(crate) fn reading_of(scan: &Scan) -> Reading
     ensures { result ≡ reading_of scan.now }
 {
     match scan {
@@ -124,7 +124,9 @@ pub(crate) fn reading(scan: &Scan) -> Reading
         | Scan::CatcodeSpace { .. } => Reading::Expanded,
         Scan::Text { .. } => Reading::Text,
         Scan::DefBody {
-            definition, mark, ..
+            definition,
+            mark,
+            ..
         } => body_reading(definition.is_expanded, *mark),
     }
 }

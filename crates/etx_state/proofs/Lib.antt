@@ -5,3 +5,4 @@ pub mod Naming
 pub mod Refine
 pub mod Stored
 pub mod Words
+pub mod Stacks

@@ -1,5 +1,6 @@
 //! The stack of scans in progress.
-ghost use Rattle.std.specs.Prelude.{◌≡◌, ◌↔◌, ◌∷◌, [], length, IsTrue, OnOk, OnErr, MatchOption};
+ghost use Rattle.std.specs.Prelude.{◌≡◌, ◌↔◌, ◌∷◌, [], length, slice_get, IsTrue, OnOk, OnErr, MatchOption};
+ghost use Rattle.std.specs.Option.{option_copied};
 
 use crate::scan::Entry;
 use std::alloc::{AllocError, Global};
@@ -42,6 +43,19 @@ impl Scans {
         ensures { IsTrue result ↔ (self.now ≡ []) }
     {
         self.items.is_empty()
+    }
+
+    /// The entry at `i`, counted from the top, from 0. `None` exactly past the end.
+    #[tactic(auto, using(crate::proofs::Stacks::at_in_reverse, crate::proofs::Stacks::past_reverse))]
+    pub fn at(&self, i: usize) -> Option<&Entry>
+        ensures { option_copied result ≡ slice_get self.now i }
+    {
+        let len = self.items.len();
+        if i < len {
+            self.items.get(len - 1 - i)
+        } else {
+            None
+        }
     }
 
     /// One more entry. After an `Err` the entries are what they were.

@@ -1,0 +1,4 @@
+pub mod Gotten
+pub mod Falling
+pub mod Groups
+pub mod Watching
