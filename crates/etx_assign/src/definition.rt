@@ -22,13 +22,7 @@ pub(crate) fn mark(meaning: &Meaning) -> Option<u8>
     ensures { result ≡ mark_of meaning.now }
 {
     match meaning {
-        Meaning::Char { code, cat } => {
-            if *cat == 6 {
-                Some(*code)
-            } else {
-                None
-            }
-        }
+        Meaning::Char { code, cat } => { if *cat == 6 { Some(*code) } else { None } }
         _ => None,
     }
 }
@@ -193,11 +187,7 @@ fn with_parameter(code: u8, definition: Definition) -> Result<Definition, AllocE
 }
 
 /// A left brace behind a character of category 6 ends the parameter text, and the body too.
-fn ended_by_brace(
-    code: u8,
-    token: Token,
-    definition: Definition,
-) -> Result<Definition, AllocError>
+fn ended_by_brace(code: u8, token: Token, definition: Definition) -> Result<Definition, AllocError>
     ensures { IfOk result (λ d. d ≡ ended_by_brace code token definition) }
 {
     let mut definition = with_params(definition, &[Token::Char { code, cat: 6 }, token])?;
@@ -240,12 +230,7 @@ fn next_parameter(
     }
 }
 
-fn number(
-    s: &State,
-    code: u8,
-    definition: Definition,
-    token: Token,
-) -> Result<Move, AllocError>
+fn number(s: &State, code: u8, definition: Definition, token: Token) -> Result<Move, AllocError>
     ensures { IfOk result (λ go. go ≡ number_row code definition token) }
 {
     if definition.count >= MOST_PARAMETERS {
@@ -286,18 +271,11 @@ fn begin_body(s: &State, definition: Definition) -> Scan
     }
 }
 
-fn text_or_mark(
-    definition: Definition,
-    token: Token,
-    mark: Option<u8>,
-) -> Result<Move, AllocError>
+fn text_or_mark(definition: Definition, token: Token, mark: Option<u8>) -> Result<Move, AllocError>
     ensures { IfOk result (λ go. go ≡ text_or_mark definition token mark) }
 {
     match mark {
-        Some(_) => Ok(Move::Stay(
-            Scan::DefParams { definition, mark },
-            Push::Nothing,
-        )),
+        Some(_) => Ok(Move::Stay(Scan::DefParams { definition, mark }, Push::Nothing)),
         None => {
             let definition = with_params(definition, &[token])?;
             Ok(Move::Copied(Scan::DefParams {

@@ -62,10 +62,7 @@ pub(crate) fn before_equals(
     ensures go { IfOk result (λ go. go ≡ (equals_row is_global name token meaning (mouth_of s.old).values).go) }
 {
     if has_category(SPACE, &meaning) {
-        Ok(Move::Stay(
-            Scan::LetEquals { is_global, name },
-            Push::Nothing,
-        ))
+        Ok(Move::Stay(Scan::LetEquals { is_global, name }, Push::Nothing))
     } else if is_equals(token) {
         Ok(Move::Used(Push::Begin(Scan::LetSpace { is_global, name })))
     } else {

@@ -252,11 +252,7 @@ fn left_prefixes(prefixes: Prefixes) -> Option<Scan>
 }
 
 /// The prefixes that only a definition takes are dropped, with an error; the command is read again.
-fn drop_irrelevant(
-    s: &State,
-    primitive: Primitive,
-    prefixes: Prefixes,
-) -> Result<Move, AllocError>
+fn drop_irrelevant(s: &State, primitive: Primitive, prefixes: Prefixes) -> Result<Move, AllocError>
     ensures { IfOk result (λ go. go ≡ irrelevant (shown_primitive (mouth_of s.now).values primitive) prefixes) }
 {
     let what = shown_primitive(s, primitive)?;
@@ -265,11 +261,7 @@ fn drop_irrelevant(
 }
 
 /// What an assignment begins that is no definition.
-fn begin_other(
-    s: &State,
-    primitive: Primitive,
-    prefixes: Prefixes,
-) -> Result<Move, AllocError>
+fn begin_other(s: &State, primitive: Primitive, prefixes: Prefixes) -> Result<Move, AllocError>
     ensures { IfOk result (λ go. go ≡ other_begun primitive prefixes (mouth_of s.now).values) }
 {
     if is_for_definitions(prefixes) {
@@ -303,11 +295,7 @@ pub fn begin(s: &State, primitive: Primitive, prefixes: Prefixes) -> Result<Move
 }
 
 /// An assignment behind prefixes; another command takes none.
-fn begin_prefixed(
-    s: &State,
-    prefixes: Prefixes,
-    primitive: Primitive,
-) -> Result<Move, AllocError>
+fn begin_prefixed(s: &State, prefixes: Prefixes, primitive: Primitive) -> Result<Move, AllocError>
     ensures { IfOk result (λ go. go ≡ prefixed_by prefixes primitive (mouth_of s.now).values) }
 {
     if is_assignment(primitive) {

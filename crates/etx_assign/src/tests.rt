@@ -140,15 +140,32 @@ fn is_long_macro(s: &mut State, body: &[Token]) -> bool {
 }
 
 const X: Token = Token::Char { code: 120, cat: 11 };
+
 const MARK: Token = Token::Char { code: 35, cat: 6 };
+
 const ONE: Token = Token::Char { code: 49, cat: 12 };
+
 const BRACE: Token = Token::Char { code: 123, cat: 1 };
 
 #[test]
 fn codes_change_and_bodies_are_expanded_where_they_should_be(rt: HostRuntime) -> Result<(), Fail> {
     let mut s = opened(rt.alloc())?;
-    assert!(rt; comes_to(&mut s, b"\\def\\b{y}\\edef\\a{x\\b}\\def\\c{x\\b}\\def\\b{z}\\a\\c\\end", b"xyxz", 0));
-    assert!(rt; comes_to(&mut s, b"\\catcode`\\~=13 \\let~=\\a\\catcode`\\!13~\\let!=q!\\end", b"xyq", 0));
+    assert!(rt;
+        comes_to(
+            &mut s,
+            b"\\def\\b{y}\\edef\\a{x\\b}\\def\\c{x\\b}\\def\\b{z}\\a\\c\\end",
+            b"xyxz",
+            0
+        )
+    );
+    assert!(rt;
+        comes_to(
+            &mut s,
+            b"\\catcode`\\~=13 \\let~=\\a\\catcode`\\!13~\\let!=q!\\end",
+            b"xyq",
+            0
+        )
+    );
     Ok(())
 }
 
@@ -157,7 +174,14 @@ fn a_macro_is_made_of_its_texts(rt: HostRuntime) -> Result<(), Fail> {
     let mut s = opened(rt.alloc())?;
     assert!(rt; comes_to(&mut s, b"\\long\\def\\a#1#{x##1#1}\\end", b"", 0));
     assert!(rt; is_long_macro(&mut s, &[X, MARK, ONE, Token::Param(1), BRACE]));
-    assert!(rt; comes_to(&mut s, b"\\long\\let\\a=x\\def\\b}\\def x{y}\\b\\end", b"", 3));
+    assert!(rt;
+        comes_to(
+            &mut s,
+            b"\\long\\let\\a=x\\def\\b}\\def x{y}\\b\\end",
+            b"",
+            3
+        )
+    );
     Ok(())
 }
 
@@ -175,7 +199,21 @@ fn a_global_definition_lasts(rt: HostRuntime) -> Result<(), Fail> {
 fn tokens_are_read_again_in_order(rt: HostRuntime) -> Result<(), Fail> {
     let mut s = opened(rt.alloc())?;
     assert!(rt; comes_to(&mut s, b"\\def\\a{x}\\futurelet\\q\\a b\\q\\end", b"xbb", 0));
-    assert!(rt; comes_to(&mut s, b"\\def\\b{u}\\def\\c{v}\\afterassignment\\b\\afterassignment\\c\\let\\q=d\\let\\q=e\\q\\end", b"ve", 0));
-    assert!(rt; comes_to(&mut s, b"\\afterassignment\\c\\futurelet\\q\\a b\\end", b"vxb", 0));
+    assert!(rt;
+        comes_to(
+            &mut s,
+            b"\\def\\b{u}\\def\\c{v}\\afterassignment\\b\\afterassignment\\c\\let\\q=d\\let\\q=e\\q\\end",
+            b"ve",
+            0
+        )
+    );
+    assert!(rt;
+        comes_to(
+            &mut s,
+            b"\\afterassignment\\c\\futurelet\\q\\a b\\end",
+            b"vxb",
+            0
+        )
+    );
     Ok(())
 }

@@ -40,12 +40,7 @@ fn keep_after_assignment(s: &mut State, token: Token) -> Result<Move, AllocError
 
 /// A line for each scan of an assignment.
 #[tactic(auto, unfolding(crate::specs::Rows::row_of))]
-fn row(
-    s: &mut State,
-    scan: Scan,
-    token: Token,
-    meaning: Meaning,
-) -> Result<Move, AllocError>
+fn row(s: &mut State, scan: Scan, token: Token, meaning: Meaning) -> Result<Move, AllocError>
     ensures now { OnOk result (mouth_of s.new ≡ with_values (row_of scan token meaning (mouth_of s.old)).values (mouth_of s.old)) }
     ensures go { IfOk result (λ go. go ≡ (row_of scan token meaning (mouth_of s.old)).go) }
 {
@@ -160,12 +155,7 @@ fn go_kept(
 }
 
 /// A scan gets the token that it wished for.
-fn go_scan(
-    s: &mut State,
-    scan: Scan,
-    token: Token,
-    meaning: Meaning,
-) -> Result<Turned, AllocError>
+fn go_scan(s: &mut State, scan: Scan, token: Token, meaning: Meaning) -> Result<Turned, AllocError>
     requires { s.old.spent + 1 < 2 ^ 64 }
     ensures now { OnOk result (mouth_of s.new ≡ (planned_turn token (row_of scan token meaning (mouth_of s.old)) (mouth_of s.old)).now) }
     ensures turned { IfOk result (λ t. t ≡ (planned_turn token (row_of scan token meaning (mouth_of s.old)) (mouth_of s.old)).turned) }

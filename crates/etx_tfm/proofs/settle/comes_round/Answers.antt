@@ -12,9 +12,9 @@ pub returns-then-is_open_beside-2 : goal.returns-then-is_open_beside-2
 unfolding comes_round
 returns-then-is_open_beside-2 c =
     sym (some_item-here (λ x. some_item (λ y. is_none (last c.args.font.now 66049 x y))) c.loop-code.code c.loop-code-test.true
-        (sym c.is_open_beside-in-loop-code.ensures ∙ c.if-is_open_beside-2.true))
+    (sym c.is_open_beside-in-loop-code.ensures ∙ c.if-is_open_beside-2.true))
 
 pub loop-code-preserved : goal.loop-code-preserved
 loop-code-preserved c =
     any_below-on (λ code. some_item (λ y. is_none (last c.args.font.now 66049 (Glyph code) y))) c.loop-code.code c.loop-code.invariant
-        (sym c.is_open_beside-in-loop-code.ensures ∙ c.if-is_open_beside-2.false)
+    (sym c.is_open_beside-in-loop-code.ensures ∙ c.if-is_open_beside-2.false)
