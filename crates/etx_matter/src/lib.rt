@@ -27,7 +27,9 @@ pub use copies::copy_nodes;
 pub use deed::{Audience, Deed};
 pub use end::{End, FatalError, Status};
 pub use etx_lists::{Bytes, Listed, MOST};
-pub use font::{CharInfo, CharTag, Dimensions, Font, FontHeader, FontInfo, LigItem, LigStep, PairAction, Recipe};
+pub use font::{
+    CharInfo, CharTag, Dimensions, Font, FontHeader, FontInfo, LigItem, LigStep, PairAction, Recipe,
+};
 pub use glue::{Glue, GlueOrder, GlueSet};
 pub use job::{GREATEST_BUDGET, Job};
 pub use math::{AtomKind, Class8, Delim, LimitPlace, MathChar, Side, Style, StyleSize};

@@ -35,8 +35,8 @@ unfolding any_below
 any_below-here test zero c h e = absurd (omega (arith, h))
 any_below-here test (suc n) c h e =
     elim (either c n h) [
-      inl low ↦ ap (λ b. test n || b) (any_below-here test n c low e) ∙ or_true (test n)
-    | inr same ↦ ap (λ b. b || any_below test n) (ap test (sym same) ∙ e)
+      | inl low ↦ ap (λ b. test n || b) (any_below-here test n c low e) ∙ or_true (test n)
+      | inr same ↦ ap (λ b. b || any_below test n) (ap test (sym same) ∙ e)
     ]
 
 pub any_below-none : (test : ℕ → Bool) → any_below test 0 ≡ false

@@ -1,6 +1,6 @@
 -- The ligatures and kerns of a run of characters: a list that is rewritten at a cursor. "TeX: The Program", sections 545
 -- and 1029 to 1040; there the list is spread over a part that is finished, a character and a stack of ligatures.
-use Rattle.std.specs.Prelude.{ℕ, zero, suc, ◌+◌, Bool, true, false, ◌&&◌, ◌||◌, if◌then◌else◌, ℤ, pos, List, [], ◌∷◌, ◌++◌, map, min, slice_get, Option, None, Some, unwrap_or}
+use Rattle.std.specs.Prelude.{ℕ, zero, suc, ◌+◌, Bool, true, false, ◌||◌, ℤ, pos, List, [], ◌∷◌, ◌++◌, map, min, slice_get, Option, None, Some, unwrap_or}
 use Rattle.etx_matter.specs.declared.node.Node.{Node, Node-F, roll-Node}
 use Rattle.etx_matter.specs.declared.node.KernKind.TheVariants as kern
 use Rattle.etx_matter.specs.declared.sizes.CharSize.{CharSize}
@@ -108,8 +108,8 @@ edge_unless false edge = edge
 abbrev pub made_of : Piece → Piece → ℕ → Bool → Bool → Piece
 made_of x y code keeps_current keeps_next =
     Made code (letters_unless keeps_current x ++ letters_unless keeps_next y)
-        (edge_unless keeps_current (has_left_edge x) || edge_unless keeps_next (has_left_edge y))
-        (edge_unless keeps_current (has_right_edge x) || edge_unless keeps_next (has_right_edge y))
+    (edge_unless keeps_current (has_left_edge x) || edge_unless keeps_next (has_left_edge y))
+    (edge_unless keeps_current (has_right_edge x) || edge_unless keeps_next (has_right_edge y))
 
 -- the cursor passes over no more than stays of the two and the ligature, but for the last
 abbrev pub passes_of : ℕ → Bool → Bool → ℕ
@@ -122,7 +122,7 @@ by_action font written x y rest (Some (Kern place)) =
     record { written = written ++ nodes_of font x ++ kern_of font place ∷ []; rest = y ∷ rest }
 by_action font written x y rest (Some (Ligature code keeps_current keeps_next passes)) =
     passed font (passes_of passes keeps_current keeps_next) written
-        (item_if keeps_current x ++ made_of x y code keeps_current keeps_next ∷ (item_if keeps_next y ++ rest))
+    (item_if keeps_current x ++ made_of x y code keeps_current keeps_next ∷ (item_if keeps_next y ++ rest))
 
 unfoldable pub stepped : FontState → List Node → Piece → Piece → List Piece → Place
 stepped font written x y rest = by_action font written x y rest (action_between font.info (item_of x) (item_of y))

@@ -6,7 +6,9 @@ ghost use Rattle.etx_tfm.specs.Machine.{size_by, size_of, number_at, nodes_of, k
 use crate::piece::{Piece, made_of};
 use crate::program::action_between;
 use etx_lists::Listed;
-use etx_matter::{CharInfo, CharSize, Dimensions, Font, FontInfo, KernKind, Node, Nodes, PairAction};
+use etx_matter::{
+    CharInfo, CharSize, Dimensions, Font, FontInfo, KernKind, Node, Nodes, PairAction,
+};
 use std::alloc::{AllocError, Global};
 use std::collections::VecDeque;
 
@@ -79,7 +81,12 @@ fn write_kern(font: &Font, place: u16, out: &mut Nodes) -> Result<(), AllocError
 
 /// Moves the cursor over so many items, or over all that there are.
 #[tactic(auto, unfolding(crate::specs::Machine::passed))]
-fn pass(font: &Font, count: u8, out: &mut Nodes, rest: &mut VecDeque<Piece>) -> Result<(), AllocError>
+fn pass(
+    font: &Font,
+    count: u8,
+    out: &mut Nodes,
+    rest: &mut VecDeque<Piece>,
+) -> Result<(), AllocError>
     ensures { OnOk result (place out.new rest.new.items ≡ passed font.now count out.old rest.old.items) }
 {
     for _ in 0..count {
@@ -116,7 +123,14 @@ fn put_if(stays: bool, piece: Piece, rest: &mut VecDeque<Piece>) -> Result<(), A
 
 /// Does what is to be done between the item at the cursor and the next one.
 #[tactic(auto, unfolding(crate::specs::Machine::stepped))]
-fn step(alloc: Global, font: &Font, current: Piece, next: Piece, out: &mut Nodes, rest: &mut VecDeque<Piece>) -> Result<(), AllocError>
+fn step(
+    alloc: Global,
+    font: &Font,
+    current: Piece,
+    next: Piece,
+    out: &mut Nodes,
+    rest: &mut VecDeque<Piece>,
+) -> Result<(), AllocError>
     ensures { OnOk result (place out.new rest.new.items ≡ stepped font.now out.old current next rest.old.items) }
 {
     match action_between(font.info(), current.item(), next.item()) {
@@ -129,23 +143,35 @@ fn step(alloc: Global, font: &Font, current: Piece, next: Piece, out: &mut Nodes
             write(font, current, out)?;
             write_kern(font, kern, out)
         }
-        Some(PairAction::Ligature {
-            code,
-            keeps_current,
-            keeps_next,
-            passes,
-        }) => {
+        Some(
+            PairAction::Ligature {
+                code,
+                keeps_current,
+                keeps_next,
+                passes,
+            },
+        ) => {
             let made = made_of(alloc, &current, &next, code, keeps_current, keeps_next)?;
             put_if(keeps_next, next, rest)?;
             rest.push_front(made)?;
             put_if(keeps_current, current, rest)?;
-            pass(font, passes_of(passes, keeps_current, keeps_next), out, rest)
+            pass(
+                font,
+                passes_of(passes, keeps_current, keeps_next),
+                out,
+                rest,
+            )
         }
     }
 }
 
 /// The items of a word, with the edges that are asked for.
-fn edged(alloc: Global, chars: &[u8], left: bool, right: bool) -> Result<VecDeque<Piece>, AllocError>
+fn edged(
+    alloc: Global,
+    chars: &[u8],
+    left: bool,
+    right: bool,
+) -> Result<VecDeque<Piece>, AllocError>
     ensures { IfOk result (λ it. it.items ≡ edged chars.now left right) }
 {
     let mut rest = VecDeque::new(alloc);
@@ -166,7 +192,13 @@ fn edged(alloc: Global, chars: &[u8], left: bool, right: bool) -> Result<VecDequ
 ///
 /// A character that doesn't exist in the font stays as it is, with no program and no size. `Err` comes only where memory
 /// is wanting, or after 2^64 - 1 steps.
-pub fn ligkern(alloc: Global, font: &Font, chars: &[u8], left: bool, right: bool) -> Result<Nodes, AllocError>
+pub fn ligkern(
+    alloc: Global,
+    font: &Font,
+    chars: &[u8],
+    left: bool,
+    right: bool,
+) -> Result<Nodes, AllocError>
     ensures { IfOk result (λ nodes. Rewrites font.now [] (edged chars.now left right) nodes) }
 {
     let mut rest = edged(alloc, chars, left, right)?;

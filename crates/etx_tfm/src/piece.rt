@@ -86,14 +86,23 @@ fn edge_unless(stays: bool, edge: bool) -> bool
 }
 
 /// The ligature `code` between two items, each of which stays or not.
-pub fn made_of(alloc: Global, current: &Piece, next: &Piece, code: u8, keeps_current: bool, keeps_next: bool) -> Result<Piece, AllocError>
+pub fn made_of(
+    alloc: Global,
+    current: &Piece,
+    next: &Piece,
+    code: u8,
+    keeps_current: bool,
+    keeps_next: bool,
+) -> Result<Piece, AllocError>
     ensures { IfOk result (λ it. it ≡ made_of current.now next.now code keeps_current keeps_next) }
 {
     let mut letters = Bytes::new(alloc);
     current.add_letters_unless(keeps_current, &mut letters)?;
     next.add_letters_unless(keeps_next, &mut letters)?;
-    let left = edge_unless(keeps_current, current.has_left_edge()) || edge_unless(keeps_next, next.has_left_edge());
-    let right = edge_unless(keeps_current, current.has_right_edge()) || edge_unless(keeps_next, next.has_right_edge());
+    let left = edge_unless(keeps_current, current.has_left_edge())
+        || edge_unless(keeps_next, next.has_left_edge());
+    let right = edge_unless(keeps_current, current.has_right_edge())
+        || edge_unless(keeps_next, next.has_right_edge());
     Ok(Piece::Made {
         code,
         letters,

@@ -76,7 +76,11 @@ fn has_bad_dimensions(words: &[Word], lengths: &Lengths, font: &FontInfo) -> boo
 fn has_bad_parameters(words: &[Word], lengths: &Lengths) -> bool
     ensures { result ≡ has_bad_parameters words.now lengths.now }
 {
-    let parameters = section(words, lengths.parameters_at(), usize::from(lengths.parameters));
+    let parameters = section(
+        words,
+        lengths.parameters_at(),
+        usize::from(lengths.parameters),
+    );
     match parameters {
         [] => false,
         [_, rest @ ..] => has_large(rest),
@@ -110,7 +114,12 @@ fn find_damage(words: &[Word], lengths: &Lengths, font: &FontInfo) -> Option<Dam
 
 /// The font whose file has these words behind its lengths, which are right.
 #[tactic(auto, unfolding(crate::specs::Reading::checked))]
-fn read_checked(alloc: Global, header: FontHeader, words: &[Word], lengths: &Lengths) -> Result<Font, FontFault>
+fn read_checked(
+    alloc: Global,
+    header: FontHeader,
+    words: &[Word],
+    lengths: &Lengths,
+) -> Result<Font, FontFault>
     requires small { header.size < 134217728 }
     requires codes { first_code lengths.now + character_count lengths.now ≤ 256 }
     ensures font { IfOk result (λ font. IsFontOf font (checked header words.now lengths.now)) }

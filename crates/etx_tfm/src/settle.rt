@@ -28,21 +28,31 @@ fn last(font: &FontInfo, depth: u32, current: LigItem, next: LigItem) -> Option<
     let deeper = depth - 1;
     match action_between(font, current, next) {
         None | Some(PairAction::Kern(_)) => Some(next),
-        Some(PairAction::Ligature {
-            code,
-            keeps_current,
-            keeps_next,
-            passes,
-        }) => {
+        Some(
+            PairAction::Ligature {
+                code,
+                keeps_current,
+                keeps_next,
+                passes,
+            },
+        ) => {
             let made = LigItem::Glyph(code);
             if !keeps_current && !keeps_next {
                 return Some(made);
             }
             if !keeps_next {
-                return if passes == 0 { last(font, deeper, current, made) } else { Some(made) };
+                return if passes == 0 {
+                    last(font, deeper, current, made)
+                } else {
+                    Some(made)
+                };
             }
             if !keeps_current {
-                return if passes == 0 { last(font, deeper, made, next) } else { Some(next) };
+                return if passes == 0 {
+                    last(font, deeper, made, next)
+                } else {
+                    Some(next)
+                };
             }
             if passes == 0 {
                 let end = last(font, deeper, current, made)?;

@@ -139,7 +139,12 @@ fn left_program_of(steps: &[Word]) -> Option<u16>
     left_program_in(*last)
 }
 
-fn read_dimensions(alloc: Global, size: u32, words: &[Word], lengths: &Lengths) -> Result<Dimensions, AllocError>
+fn read_dimensions(
+    alloc: Global,
+    size: u32,
+    words: &[Word],
+    lengths: &Lengths,
+) -> Result<Dimensions, AllocError>
     requires { size < 134217728 }
     ensures { IfOk result (λ it. it ≡ dimensions_of size words.now lengths.now) }
 {
@@ -157,7 +162,12 @@ fn read_dimensions(alloc: Global, size: u32, words: &[Word], lengths: &Lengths) 
 
 /// The tables of a font whose file has these words behind its lengths.
 #[tactic(auto, unfolding(crate::specs::Tables::tables_of))]
-pub fn read_tables(alloc: Global, header: FontHeader, words: &[Word], lengths: &Lengths) -> Result<FontInfo, AllocError>
+pub fn read_tables(
+    alloc: Global,
+    header: FontHeader,
+    words: &[Word],
+    lengths: &Lengths,
+) -> Result<FontInfo, AllocError>
     requires { header.size < 134217728 }
     ensures { IfOk result (λ it. it ≡ tables_of header words.now lengths.now) }
 {
@@ -165,7 +175,11 @@ pub fn read_tables(alloc: Global, header: FontHeader, words: &[Word], lengths: &
     let steps = section(words, lengths.steps_at(), usize::from(lengths.steps));
     let kerns = section(words, lengths.kerns_at(), usize::from(lengths.kerns));
     let recipes = section(words, lengths.recipes_at(), usize::from(lengths.recipes));
-    let parameters = section(words, lengths.parameters_at(), usize::from(lengths.parameters));
+    let parameters = section(
+        words,
+        lengths.parameters_at(),
+        usize::from(lengths.parameters),
+    );
     Ok(FontInfo {
         header,
         first: first_code(lengths),

@@ -46,13 +46,15 @@ fn is_letter(nodes: &Nodes, place: usize, letter: u8, wide: i32) -> bool {
 /// Whether a node is the ligature `*` of these letters, with these edges in it.
 fn is_star(nodes: &Nodes, place: usize, word: &[u8], edges: (bool, bool)) -> bool {
     match nodes.at(place) {
-        Some(Node::Lig {
-            code,
-            letters,
-            left,
-            right,
-            ..
-        }) => *code == b'*' && letters.as_slice() == word && (*left, *right) == edges,
+        Some(
+            Node::Lig {
+                code,
+                letters,
+                left,
+                right,
+                ..
+            },
+        ) => *code == b'*' && letters.as_slice() == word && (*left, *right) == edges,
         _ => false,
     }
 }
@@ -64,7 +66,12 @@ fn has_parameters(font: &Font, wanted: &[i32]) -> bool {
 #[test]
 fn the_small_font_has_its_metrics(rt: HostRuntime) -> Result<(), Fail> {
     let font = font_with(rt.alloc(), &[])?;
-    assert!(rt; has_parameters(&font, &[0, 163_840, 81_920, 40_960, 327_680, 655_360, 81_920]));
+    assert!(rt;
+        has_parameters(
+            &font,
+            &[0, 163_840, 81_920, 40_960, 327_680, 655_360, 81_920]
+        )
+    );
     assert!(rt; font.info().header.size == 655_360);
     assert!(rt; font.info().has_character(b'*'));
     assert!(rt; !font.info().has_character(b'+'));
@@ -76,9 +83,27 @@ fn the_small_font_has_its_metrics(rt: HostRuntime) -> Result<(), Fail> {
 fn a_size_may_be_asked_for(rt: HostRuntime) -> Result<(), Fail> {
     let bytes = small_font(rt.alloc())?;
     let small = read_font(rt.alloc(), bytes.as_slice(), Size::Scaled(500))?;
-    assert!(rt; has_parameters(&small, &[0, 81_920, 40_960, 20_480, 163_840, 327_680, 40_960]));
+    assert!(rt;
+        has_parameters(
+            &small,
+            &[0, 81_920, 40_960, 20_480, 163_840, 327_680, 40_960]
+        )
+    );
     let large = read_font(rt.alloc(), bytes.as_slice(), Size::At(100_000_000))?;
-    assert!(rt; has_parameters(&large, &[0, 25_000_000, 12_500_000, 6_250_000, 50_000_000, 100_000_000, 12_500_000]));
+    assert!(rt;
+        has_parameters(
+            &large,
+            &[
+                0,
+                25_000_000,
+                12_500_000,
+                6_250_000,
+                50_000_000,
+                100_000_000,
+                12_500_000
+            ]
+        )
+    );
     Ok(())
 }
 
@@ -120,7 +145,13 @@ fn damage_that_is_harder_to_see(rt: HostRuntime) -> Result<(), Fail> {
     let alloc = rt.alloc();
     // `a` is its own successor, or `a` and `b` are each other's
     assert!(rt; gives(alloc, &[(254, 2), (255, 97)], Damage::Char)?);
-    assert!(rt; gives(alloc, &[(254, 2), (255, 98), (258, 2), (259, 97)], Damage::Char)?);
+    assert!(rt;
+        gives(
+            alloc,
+            &[(254, 2), (255, 98), (258, 2), (259, 97)],
+            Damage::Char
+        )?
+    );
     // the first width isn't 0
     assert!(rt; gives(alloc, &[(358, 1)], Damage::Dimension)?);
     // the ligature doesn't exist
@@ -148,7 +179,16 @@ fn the_right_edge_has_a_character(rt: HostRuntime) -> Result<(), Fail> {
     // a full stop becomes `*` with it
     let font = font_with(
         rt.alloc(),
-        &[(17, 2), (23, 6), (388, 255), (389, 46), (391, 1), (392, 128), (393, 46), (395, 42)],
+        &[
+            (17, 2),
+            (23, 6),
+            (388, 255),
+            (389, 46),
+            (391, 1),
+            (392, 128),
+            (393, 46),
+            (395, 42),
+        ],
     )?;
     let nodes = ligkern(rt.alloc(), &font, b"f", false, true)?;
     assert!(rt; is_star(&nodes, 0, b"f", (false, true)));

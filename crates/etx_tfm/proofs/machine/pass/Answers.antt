@@ -5,5 +5,5 @@ use Rattle.etx_tfm.proofs.machine.pass.Goals as goal
 pub loop-preserved : goal.loop-preserved
 loop-preserved c =
     passed-by c.args.font.now c.args.count c.loop.counter c.loop.out c.write.new.out c.in-Some.piece c.loop.rest.items c.pop_front.new.self.items
-        c.loop-test.true c.in-Some.ensures.items c.in_ok-write-in-Some.ensures
+    c.loop-test.true c.in-Some.ensures.items c.in_ok-write-in-Some.ensures
     ∙ c.loop.invariant
