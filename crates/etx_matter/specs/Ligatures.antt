@@ -1,5 +1,5 @@
 -- What the programs of a font say of two neighbours: "TeX: The Program", sections 545 and 1039.
-use Rattle.std.specs.Prelude.{ℕ, zero, suc, ◌+◌, Bool, true, false, ◌&&◌, ◌||◌, ◌==◌, nat_lt, if◌then◌else◌, List, [], ◌∷◌, drop, slice_get, Option, None, Some, is_none}
+use Rattle.std.specs.Prelude.{ℕ, zero, suc, ◌+◌, ◌*◌, min, Bool, true, false, ◌&&◌, ◌||◌, ◌==◌, nat_lt, if◌then◌else◌, List, [], ◌∷◌, drop, slice_get, Option, None, Some, is_none}
 use Rattle.std.specs.Option.{option_and_then}
 use Rattle.etx_matter.specs.declared.font.CharTag.{CharTag}
 use Rattle.etx_matter.specs.declared.font.CharTag.TheVariants.{Plain, Program, Successor, Extensible}
@@ -88,7 +88,18 @@ any_below test (suc n) = test n || any_below test n
 abbrev pub some_item : (LigItem → Bool) → Bool
 some_item test = test Boundary || any_below (λ code. test (Glyph code)) 256
 
--- Ligatures come round where what some pair comes to can't be found without that of the same pair. There are 257 times 257
--- pairs, so where more of them stand one within the other, one of them comes again.
+unfoldable pub ligature_count : List LigStep → ℕ
+ligature_count [] = 0
+ligature_count (Elsewhere place ∷ steps) = ligature_count steps
+ligature_count (Pair next (Kern kern) skip ∷ steps) = ligature_count steps
+ligature_count (Pair next (Ligature code keeps_current keeps_next passes) skip ∷ steps) = ligature_count steps + 1
+
+-- A pair with a ligature has an item of 257 on the left and a step that names the one on the right, and a step names two
+-- items at most, a character and the boundary. So no more pairs than these, and one without a ligature, stand one within
+-- the other, unless one of them comes again. There are 257 times 257 pairs in all.
+unfoldable pub deepest : FontInfo → ℕ
+deepest font = min (514 * ligature_count font.steps + 1) 66_049
+
+-- Ligatures come round where what some pair comes to can't be found without that of the same pair.
 unfoldable pub comes_round : FontInfo → Bool
-comes_round font = some_item (λ x. some_item (λ y. is_none (last font 66_049 x y)))
+comes_round font = some_item (λ x. some_item (λ y. is_none (last font (deepest font) x y)))

@@ -1,5 +1,5 @@
 -- A font in whose tables every place and code leads to something, and whose ligatures don't come round.
-use Rattle.std.specs.Prelude.{ℕ, ◌≡◌, ◌≤◌, ◌+◌, Bool, false, ◌||◌, length}
+use Rattle.std.specs.Prelude.{◌≡◌, ◌≤◌, ◌+◌, Bool, false, ◌||◌, length}
 use Rattle.etx_matter.specs.declared.font.FontInfo.{FontInfo}
 use Rattle.etx_matter.specs.Fonts.{has_bad_characters, has_bad_among, has_bad_recipes}
 use Rattle.etx_matter.specs.Ligatures.{comes_round}

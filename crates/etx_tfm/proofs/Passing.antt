@@ -1,5 +1,5 @@
 -- The cursor, one item further.
-use Rattle.std.proofs.Common.{◌≡◌, ℕ, suc, ◌+◌, ◌-◌, ◌<◌, ◌≤◌, List, [], ◌∷◌, ◌++◌, length, drop, Option, refl, sym, subst, ap, ◌∙◌, arith}
+use Rattle.std.proofs.Common.{◌≡◌, ℕ, suc, ◌+◌, ◌-◌, ◌<◌, ◌≤◌, List, [], ◌∷◌, ◌++◌, length, drop, refl, sym, subst, ap, ◌∙◌, arith}
 use Rattle.etx_matter.specs.declared.node.Node.{Node}
 use Rattle.etx_matter.specs.Fonts.{FontState}
 use Rattle.etx_tfm.specs.declared.piece.Piece.{Piece}

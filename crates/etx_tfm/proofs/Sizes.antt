@@ -1,5 +1,5 @@
 -- What right lengths say: that the file is long enough for what is read of it, and that codes are at most 255.
-use Rattle.std.proofs.Common.{◌≡◌, ℕ, ◌+◌, ◌*◌, ◌-◌, ◌<◌, ◌≤◌, Bool, true, false, cond, ◌||◌, List, length, map, take, drop, ltb, eqb, leb, refl, arith}
+use Rattle.std.proofs.Common.{◌≡◌, ℕ, ◌+◌, ◌*◌, ◌-◌, ◌≤◌, Bool, true, false, cond, ◌||◌, List, length, drop, ltb, eqb, leb, refl, arith}
 use Rattle.std.proofs.lemmas.Bool.{ltb-false, ltb-true, eqb-true}
 use Rattle.std.proofs.lemmas.List.{length-map, length-take}
 use Rattle.std.specs.List.{list_any}
@@ -7,7 +7,7 @@ use Rattle.etx_matter.specs.Fonts.{opposite}
 use Rattle.etx_matter.specs.declared.font.FontHeader.{FontHeader}
 use Rattle.etx_tfm.specs.declared.lengths.Lengths.{Lengths}
 use Rattle.etx_tfm.specs.declared.word.Word.{Word}
-use Rattle.etx_tfm.specs.Lengths.{half_at, is_short, has_wrong_sizes, all_lengths, has_bad_codes, has_empty_table, character_count, total, parameters_at}
+use Rattle.etx_tfm.specs.Lengths.{half_at, is_short, has_wrong_sizes, all_lengths, has_bad_codes, has_empty_table, character_count, total}
 use Rattle.etx_tfm.specs.Tables.{tables_of, first_code, characters_in}
 use Rattle.etx_tfm.specs.Words.{char_of}
 

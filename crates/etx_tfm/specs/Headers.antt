@@ -1,6 +1,6 @@
 -- The header of a TFM file: a checksum and the design size; what follows is of no use to TeX. "TeX: The Program",
 -- sections 541 and 568.
-use Rattle.std.specs.Prelude.{ℕ, ◌*◌, ◌/◌, ◌^◌, Bool, ◌||◌, nat_lt, nat_le, if◌then◌else◌, ℤ, pos, ◌≤ℤ◌, unsigned_abs, List, drop, Option, None, Some}
+use Rattle.std.specs.Prelude.{ℕ, ◌*◌, ◌/◌, Bool, ◌||◌, nat_lt, nat_le, if◌then◌else◌, pos, ◌≤ℤ◌, unsigned_abs, List, drop, Option, None, Some}
 use Rattle.byteorder.specs.Endian.{big_number}
 use Rattle.etx_matter.specs.declared.sizes.Size.{Size}
 use Rattle.etx_matter.specs.declared.sizes.Size.TheVariants.{Design, At, Scaled}

@@ -1,6 +1,6 @@
 -- The twelve numbers of 16 bits at the front of a TFM file, and where its tables begin: "TeX: The Program", sections 540
 -- and 565.
-use Rattle.std.specs.Prelude.{ℕ, ◌+◌, ◌-◌, ◌*◌, Bool, ◌||◌, ◌==◌, nat_lt, nat_le, List, [], ◌∷◌, length, drop, take}
+use Rattle.std.specs.Prelude.{ℕ, ◌+◌, ◌-◌, ◌*◌, Bool, ◌||◌, ◌==◌, nat_lt, nat_le, List, [], ◌∷◌, length, drop}
 use Rattle.std.specs.List.{list_any}
 use Rattle.byteorder.specs.Endian.{big_number}
 use Rattle.etx_matter.specs.Fonts.{opposite}

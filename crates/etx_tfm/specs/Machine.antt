@@ -1,6 +1,6 @@
 -- The ligatures and kerns of a run of characters: a list that is rewritten at a cursor. "TeX: The Program", sections 545
 -- and 1029 to 1040; there the list is spread over a part that is finished, a character and a stack of ligatures.
-use Rattle.std.specs.Prelude.{ℕ, zero, suc, ◌+◌, Bool, true, false, ◌&&◌, ◌||◌, if◌then◌else◌, ℤ, pos, List, [], ◌∷◌, ◌++◌, map, min, slice_get, Option, None, Some, unwrap_or}
+use Rattle.std.specs.Prelude.{ℕ, zero, suc, ◌+◌, Bool, true, false, ◌||◌, ℤ, pos, List, [], ◌∷◌, ◌++◌, map, min, slice_get, Option, None, Some, unwrap_or}
 use Rattle.etx_matter.specs.declared.node.Node.{Node, Node-F, roll-Node}
 use Rattle.etx_matter.specs.declared.node.KernKind.TheVariants as kern
 use Rattle.etx_matter.specs.declared.sizes.CharSize.{CharSize}

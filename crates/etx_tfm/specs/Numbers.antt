@@ -1,6 +1,6 @@
 -- Words that stand for numbers: 20 of their 32 bits stand behind the point. "TeX: The Program", sections 541, 571, 572
 -- and 575.
-use Rattle.std.specs.Prelude.{ℕ, ◌+◌, ◌-◌, ◌*◌, ◌/◌, ◌==◌, nat_lt, nat_le, if◌then◌else◌, ℤ, pos, ◌-ℤ◌}
+use Rattle.std.specs.Prelude.{ℕ, ◌+◌, ◌*◌, ◌/◌, ◌==◌, nat_lt, nat_le, if◌then◌else◌, ℤ, pos, ◌-ℤ◌}
 use Rattle.etx_tfm.specs.declared.word.Word.{Word}
 
 -- the power of two by which a size is divided, so that products stay below 2^31; a size is below 2^27

@@ -1,5 +1,5 @@
 -- What becomes of a TFM file: a font, or the first kind of damage that it has. "TeX: The Program", sections 560 to 576.
-use Rattle.std.specs.Prelude.{ℕ, ◌≡◌, ◌*◌, Bool, true, false, ◌||◌, ◌==◌, nat_lt, if◌then◌else◌, ℤ, pos, unsigned_abs, List, [], ◌∷◌, length, Option, None, Some, Result, Ok, Err}
+use Rattle.std.specs.Prelude.{ℕ, ◌≡◌, Bool, false, ◌||◌, ◌==◌, nat_lt, if◌then◌else◌, ℤ, unsigned_abs, List, [], ◌∷◌, Option, None, Some, Result, Ok, Err}
 use Rattle.std.specs.List.{list_any}
 use Rattle.etx_matter.specs.declared.sizes.Size.{Size}
 use Rattle.etx_matter.specs.declared.font.Dimensions.{Dimensions}

@@ -1,5 +1,5 @@
 -- The tables of a font as a TFM file has them: "TeX: The Program", sections 540 to 547.
-use Rattle.std.specs.Prelude.{ℕ, ◌+◌, ◌-◌, ◌*◌, Bool, ◌==◌, nat_lt, if◌then◌else◌, ℤ, pos, List, [], ◌∷◌, ◌++◌, length, take, drop, map, replicate, slice_get, Option, None, Some}
+use Rattle.std.specs.Prelude.{ℕ, ◌+◌, ◌-◌, ◌*◌, ◌==◌, nat_lt, if◌then◌else◌, ℤ, pos, List, [], ◌∷◌, ◌++◌, length, take, drop, map, replicate, slice_get, Option, None, Some}
 use Rattle.std.specs.Option.{option_and_then}
 use Rattle.etx_matter.specs.declared.font.FontHeader.{FontHeader}
 use Rattle.etx_matter.specs.declared.font.Dimensions.{Dimensions}

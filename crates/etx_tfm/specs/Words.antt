@@ -1,5 +1,5 @@
 -- The words of a TFM file, four bytes each, and what each says: "TeX: The Program", sections 541 to 546.
-use Rattle.std.specs.Prelude.{ℕ, ◌+◌, ◌-◌, ◌*◌, ◌/◌, ◌%◌, Bool, ◌==◌, nat_lt, nat_le, if◌then◌else◌, List, [], ◌∷◌, Option, None, Some}
+use Rattle.std.specs.Prelude.{ℕ, ◌+◌, ◌-◌, ◌*◌, ◌/◌, ◌%◌, ◌==◌, nat_lt, nat_le, if◌then◌else◌, List, [], ◌∷◌, Option, None, Some}
 use Rattle.etx_matter.specs.declared.font.CharTag.{CharTag}
 use Rattle.etx_matter.specs.declared.font.CharTag.TheVariants.{Plain, Program, Successor, Extensible}
 use Rattle.etx_matter.specs.declared.font.CharInfo.{CharInfo}

@@ -1,14 +1,17 @@
 //! Ligatures that come round.
-ghost use Rattle.std.specs.Prelude.{◌≡◌, is_none};
+ghost use Rattle.std.specs.Prelude.{◌≡◌, ◌≤◌, ◌+◌, length, is_none};
 ghost use Rattle.etx_matter.specs.Soundness.{has_bad_steps};
-ghost use Rattle.etx_matter.specs.Ligatures.{by_ligature, by_pair, last, any_below, some_item, comes_round};
+ghost use Rattle.etx_matter.specs.Ligatures.{by_ligature, by_pair, last, any_below, some_item, ligature_count, deepest, comes_round};
 
 use crate::checks::has_bad_among;
 use crate::program::action_between;
-use etx_matter::{FontInfo, LigItem, PairAction};
+use etx_matter::{FontInfo, LigItem, LigStep, PairAction};
 
 /// How many pairs there are of a character or a boundary with another.
-const PAIRS: u32 = 66_049;
+const PAIRS: usize = 66_049;
+
+/// The most pairs with a ligature for which one step is: 257 items on the left, and two on the right.
+const PAIRS_OF_A_STEP: usize = 514;
 
 /// How many codes there are.
 const CODES: u16 = 256;
@@ -63,19 +66,61 @@ fn last(font: &FontInfo, depth: u32, current: LigItem, next: LigItem) -> Option<
     }
 }
 
-/// Whether what some pair with `current` comes to isn't found.
-fn is_open_beside(font: &FontInfo, current: LigItem) -> bool
-    ensures { result ≡ some_item (λ next. is_none (last font.now 66049 current next)) }
+/// Whether what some pair with `current` comes to isn't found so.
+fn is_open_beside(font: &FontInfo, depth: u32, current: LigItem) -> bool
+    ensures { result ≡ some_item (λ next. is_none (last font.now depth current next)) }
 {
-    if last(font, PAIRS, current, LigItem::Boundary).is_none() {
+    if last(font, depth, current, LigItem::Boundary).is_none() {
         return true;
     }
     for code in 0..CODES {
-        if last(font, PAIRS, current, LigItem::Glyph(code as u8)).is_none() {
+        if last(font, depth, current, LigItem::Glyph(code as u8)).is_none() {
             return true;
         }
     }
     false
+}
+
+/// Whether what some pair comes to isn't found so.
+fn is_open(font: &FontInfo, depth: u32) -> bool
+    ensures { result ≡ some_item (λ current. some_item (λ next. is_none (last font.now depth current next))) }
+{
+    if is_open_beside(font, depth, LigItem::Boundary) {
+        return true;
+    }
+    for code in 0..CODES {
+        if is_open_beside(font, depth, LigItem::Glyph(code as u8)) {
+            return true;
+        }
+    }
+    false
+}
+
+#[tactic(auto, unfolding(etx_matter::specs::Ligatures::ligature_count))]
+fn ligature_count(steps: &[LigStep]) -> usize
+    ensures value { result ≡ ligature_count steps.now }
+    ensures small { result ≤ length steps.now }
+{
+    let mut count = 0usize;
+    for step in steps {
+        match *step {
+            LigStep::Elsewhere(_) => {}
+            LigStep::Pair { action, .. } => match action {
+                PairAction::Kern(_) => {}
+                PairAction::Ligature { .. } => count += 1,
+            },
+        }
+    }
+    count
+}
+
+/// How many pairs may stand one within the other before one of them comes again.
+#[tactic(auto, unfolding(etx_matter::specs::Ligatures::deepest))]
+fn deepest(font: &FontInfo) -> u32
+    ensures { result ≡ deepest font.now }
+{
+    let count = ligature_count(font.steps.as_slice());
+    (PAIRS_OF_A_STEP * count + 1).min(PAIRS) as u32
 }
 
 /// Whether ligatures come round.
@@ -83,15 +128,7 @@ fn is_open_beside(font: &FontInfo, current: LigItem) -> bool
 fn comes_round(font: &FontInfo) -> bool
     ensures { result ≡ comes_round font.now }
 {
-    if is_open_beside(font, LigItem::Boundary) {
-        return true;
-    }
-    for code in 0..CODES {
-        if is_open_beside(font, LigItem::Glyph(code as u8)) {
-            return true;
-        }
-    }
-    false
+    is_open(font, deepest(font))
 }
 
 /// Damage of the kind [`LigKern`](crate::Damage::LigKern).

@@ -1,4 +1,4 @@
-use Rattle.std.proofs.Common.{◌≡◌, sym, ◌∙◌, arith}
+use Rattle.std.proofs.Common.{sym, ◌∙◌}
 use Rattle.etx_tfm.proofs.Rounds.{comes_to-none, comes_to-here, comes_to-on, comes_to-end}
 use Rattle.etx_tfm.proofs.checks.comes_round.Goals as goal
 

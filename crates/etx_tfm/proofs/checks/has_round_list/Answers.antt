@@ -1,4 +1,4 @@
-use Rattle.std.proofs.Common.{◌≡◌, ◌+◌, sym, ◌∙◌, ap}
+use Rattle.std.proofs.Common.{◌+◌, sym, ◌∙◌, ap}
 use Rattle.etx_tfm.proofs.Rounds.{has_round_list-here, has_round_list-on}
 use Rattle.etx_tfm.proofs.checks.has_round_list.Goals as goal
 

@@ -1,4 +1,4 @@
-use Rattle.std.proofs.Common.{◌≡◌, [], ◌∷◌, ◌∙◌, ap}
+use Rattle.std.proofs.Common.{[], ◌∷◌, ◌∙◌, ap}
 use Rattle.etx_tfm.specs.Machine.{edged}
 use Rattle.etx_tfm.proofs.Passing.{comes-over, comes-last, comes-next, no_more}
 use Rattle.etx_tfm.proofs.machine.ligkern.Goals as goal

@@ -1,4 +1,4 @@
-use Rattle.std.proofs.Common.{◌≡◌, ◌+◌, ◌≤◌, length, sym, subst}
+use Rattle.std.proofs.Common.{◌+◌, ◌≤◌, length, sym, subst}
 use Rattle.etx_matter.specs.declared.font.FontInfo.{FontInfo}
 use Rattle.etx_tfm.proofs.Sizes.{table_small}
 use Rattle.etx_tfm.proofs.read.read_checked.Goals as goal

@@ -1,6 +1,6 @@
-use Rattle.std.proofs.Common.{◌≡◌, ◌≤◌, ◌*◌, length, sym, ◌∙◌, ap, arith}
-use Rattle.etx_tfm.specs.Lengths.{half_at, has_wrong_sizes}
-use Rattle.etx_tfm.proofs.Sizes.{IsLong, long, IsRight, right, holds_header, codes_small}
+use Rattle.std.proofs.Common.{◌≡◌, sym, ◌∙◌, ap, arith}
+use Rattle.etx_tfm.specs.Lengths.{half_at}
+use Rattle.etx_tfm.proofs.Sizes.{long, right, holds_header, codes_small}
 use Rattle.etx_tfm.proofs.read.read_font.Goals as goal
 
 pub read_lengths-lengths-requires : goal.read_lengths-lengths-requires

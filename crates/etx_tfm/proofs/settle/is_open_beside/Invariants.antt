@@ -5,4 +5,4 @@ use Rattle.etx_matter.specs.Ligatures.{last, any_below}
 use Rattle.etx_tfm.proofs.settle.is_open_beside.Given as goal
 
 abbrev pub invariant-loop-code : goal.invariant-loop-code
-invariant-loop-code l = any_below (λ code. is_none (last l.font 66049 l.current (Glyph code))) l.code ≡ false
+invariant-loop-code l = any_below (λ code. is_none (last l.font l.depth l.current (Glyph code))) l.code ≡ false
