@@ -13,19 +13,11 @@ returns-then-is_none-2 c =
     let wanted = last c.args.font.now c.args.depth c.args.current (Glyph c.loop-code.code) in
     let e : is_none wanted ≡ true =
     none_as c.last-in-loop-code.result wanted c.is_none-in-loop-code.result true c.last-in-loop-code.ensures c.is_none-in-loop-code.ensures c.if-is_none-2.true in
-<<<<<<< HEAD
-    sym (some_item-here (λ next. is_none (last c.args.font.now 66049 c.args.current next)) c.loop-code.code c.loop-code-test.true e)
-=======
     sym (some_item-here (λ next. is_none (last c.args.font.now c.args.depth c.args.current next)) c.loop-code.code c.loop-code-test.true e)
->>>>>>> d349ff91a8b5860c42fc991219aacdfb88045fbe
 
 pub loop-code-preserved : goal.loop-code-preserved
 loop-code-preserved c =
     let wanted = last c.args.font.now c.args.depth c.args.current (Glyph c.loop-code.code) in
     let e : is_none wanted ≡ false =
     none_as c.last-in-loop-code.result wanted c.is_none-in-loop-code.result false c.last-in-loop-code.ensures c.is_none-in-loop-code.ensures c.if-is_none-2.false in
-<<<<<<< HEAD
-    any_below-on (λ code. is_none (last c.args.font.now 66049 c.args.current (Glyph code))) c.loop-code.code c.loop-code.invariant e
-=======
     any_below-on (λ code. is_none (last c.args.font.now c.args.depth c.args.current (Glyph code))) c.loop-code.code c.loop-code.invariant e
->>>>>>> d349ff91a8b5860c42fc991219aacdfb88045fbe
