@@ -1,11 +1,11 @@
-ghost use Rattle.std.specs.Prelude.{◌≡◌, ◌↔◌, ◌++◌, Some, Err, OnOk, OnErr, IfOk, IsErrOf};
+ghost use Rattle.std.specs.Prelude.{◌≡◌, ◌↔◌, Some, Err, OnOk, OnErr, IfOk};
 ghost use Rattle.etx_state.specs.Fits.{Fits};
-ghost use Rattle.etx_state.specs.Values.{assign, assign_global, begin, ended, kind, after, noted, level};
-ghost use Rattle.etx_state.specs.States.{values_of, names_of, Keeps};
+ghost use Rattle.etx_state.specs.Values.{assign, assign_global, begin, kind, noted, level};
+ghost use Rattle.etx_state.specs.States.{mouth_of, with_values, group_ended, OnlyValues, OnlyValuesAndInput, Keeps};
 ghost use Rattle.etx_groups.specs.declared.groups.NoGroup.TheVariants.{OutOfMemory};
 
 use etx_matter::Token;
-use etx_state::{Capacity, GroupKind, Key, Limit, MOST_GROUPS, State, Unread, Val};
+use etx_state::{Capacity, GroupKind, Key, Limit, MOST_GROUPS, State, Val};
 use std::alloc::AllocError;
 
 /// Why no group ended.
@@ -30,10 +30,10 @@ impl From<AllocError> for NoGroup {
 /// `Full` comes exactly where 10000 groups are open, and the state is then what it was. After want of memory the values
 /// may have changed.
 pub fn begin(s: &mut State, kind: GroupKind) -> Result<(), Capacity>
-    ensures ok { OnOk result (values_of s.new ≡ begin (values_of s.old) kind) }
-    ensures full { (result ≡ Err (Capacity.Full Limit.Groups)) ↔ (level (values_of s.old) ≡ 10000) }
-    ensures unchanged { level (values_of s.old) ≡ 10000 → s.new ≡ s.old }
-    ensures names { names_of s.new ≡ names_of s.old }
+    ensures ok { OnOk result (mouth_of s.new ≡ with_values (begin (mouth_of s.old).values kind) (mouth_of s.old)) }
+    ensures full { (result ≡ Err (Capacity.Full Limit.Groups)) ↔ (level (mouth_of s.old).values ≡ 10000) }
+    ensures unchanged { level (mouth_of s.old).values ≡ 10000 → s.new ≡ s.old }
+    ensures rest { OnlyValues (mouth_of s.old) (mouth_of s.new) }
     ensures kept { Keeps s.old s.new }
 {
     if s.level() == MOST_GROUPS {
@@ -45,24 +45,24 @@ pub fn begin(s: &mut State, kind: GroupKind) -> Result<(), Capacity>
     }
 }
 
-/// Ends the innermost group, and answers its kind: its map is gone, and the tokens that were noted in it come before
-/// those that wait to be read, in the order in which they were noted ("TeX: The Program", section 326).
+/// Ends the innermost group, and answers its kind: its map is gone, and the tokens that were noted in it are read next, in
+/// the order in which they were noted ("TeX: The Program", section 326). They count as fresh ones.
 ///
 /// `Outermost` comes exactly where no group is open, and nothing is changed then. After want of memory the values may
 /// have changed.
 #[tactic(auto, using(crate::proofs::Levels::none_open, crate::proofs::Levels::some_open))]
-pub fn end(s: &mut State, unread: &mut Unread) -> Result<GroupKind, NoGroup>
-    ensures kind { IfOk result (λ k. kind (values_of s.old) ≡ Some k) }
-    ensures ok { OnOk result (values_of s.new ≡ ended (values_of s.old)) }
-    ensures after { OnOk result (unread.new ≡ after (values_of s.old) ++ unread.old) }
-    ensures none { (result ≡ Err NoGroup.Outermost) ↔ (level (values_of s.old) ≡ 0) }
-    ensures unchanged { level (values_of s.old) ≡ 0 → s.new ≡ s.old }
-    ensures names { names_of s.new ≡ names_of s.old }
+pub fn end(s: &mut State) -> Result<GroupKind, NoGroup>
+    ensures kind { IfOk result (λ k. kind (mouth_of s.old).values ≡ Some k) }
+    ensures ok { OnOk result (mouth_of s.new ≡ group_ended (mouth_of s.old)) }
+    ensures none { (result ≡ Err NoGroup.Outermost) ↔ (level (mouth_of s.old).values ≡ 0) }
+    ensures unchanged { level (mouth_of s.old).values ≡ 0 → s.new ≡ s.old }
+    ensures err { OnErr result (OnlyValues (mouth_of s.old) (mouth_of s.new)) }
+    ensures rest { OnlyValuesAndInput (mouth_of s.old) (mouth_of s.new) }
     ensures kept { Keeps s.old s.new }
 {
     match s.kind() {
         None => Err(NoGroup::Outermost),
-        Some(kind) => match s.pop_map(unread) {
+        Some(kind) => match s.pop_map() {
             Ok(_) => Ok(kind),
             Err(_) => Err(NoGroup::OutOfMemory),
         },
@@ -74,8 +74,8 @@ pub fn end(s: &mut State, unread: &mut Unread) -> Result<GroupKind, NoGroup>
 /// After want of memory the values may have changed.
 pub fn assign(s: &mut State, key: Key, value: Val) -> Result<(), AllocError>
     requires { Fits key value }
-    ensures ok { OnOk result (values_of s.new ≡ assign (values_of s.old) key value) }
-    ensures names { names_of s.new ≡ names_of s.old }
+    ensures ok { OnOk result (mouth_of s.new ≡ with_values (assign (mouth_of s.old).values key value) (mouth_of s.old)) }
+    ensures rest { OnlyValues (mouth_of s.old) (mouth_of s.new) }
     ensures kept { Keeps s.old s.new }
 {
     s.write_innermost(key, value)
@@ -86,9 +86,9 @@ pub fn assign(s: &mut State, key: Key, value: Val) -> Result<(), AllocError>
 /// After want of memory the state is what it was.
 pub fn assign_global(s: &mut State, key: Key, value: Val) -> Result<(), AllocError>
     requires { Fits key value }
-    ensures ok { OnOk result (values_of s.new ≡ assign_global (values_of s.old) key value) }
+    ensures ok { OnOk result (mouth_of s.new ≡ with_values (assign_global (mouth_of s.old).values key value) (mouth_of s.old)) }
     ensures err { OnErr result (s.new ≡ s.old) }
-    ensures names { names_of s.new ≡ names_of s.old }
+    ensures rest { OnlyValues (mouth_of s.old) (mouth_of s.new) }
     ensures kept { Keeps s.old s.new }
 {
     s.write_outermost(key, value)
@@ -98,8 +98,8 @@ pub fn assign_global(s: &mut State, key: Key, value: Val) -> Result<(), AllocErr
 ///
 /// After want of memory the values may have changed.
 pub fn after(s: &mut State, token: Token) -> Result<(), AllocError>
-    ensures ok { OnOk result (values_of s.new ≡ noted (values_of s.old) token) }
-    ensures names { names_of s.new ≡ names_of s.old }
+    ensures ok { OnOk result (mouth_of s.new ≡ with_values (noted (mouth_of s.old).values token) (mouth_of s.old)) }
+    ensures rest { OnlyValues (mouth_of s.old) (mouth_of s.new) }
     ensures kept { Keeps s.old s.new }
 {
     s.note_after(token)

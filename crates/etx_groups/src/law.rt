@@ -2,16 +2,16 @@
 ghost use Rattle.std.specs.Prelude.{◌≡◌, OnOk};
 ghost use Rattle.etx_state.specs.declared.key.GroupKind.TheVariants.{Simple, SemiSimple};
 ghost use Rattle.etx_state.specs.Values.{assign, assign_global, begin};
-ghost use Rattle.etx_state.specs.States.{values_of, Keeps};
+ghost use Rattle.etx_state.specs.States.{mouth_of, with_values, Keeps};
 
 use crate::groups::{assign, assign_global, begin, end};
 use etx_prims::IntParam;
-use etx_state::{Capacity, GroupKind, Key, State, Unread, Val};
+use etx_state::{Capacity, GroupKind, Key, State, Val};
 use std::alloc::AllocError;
 
 /// One local assignment.
 pub fn one_assignment(s: &mut State, value: i32) -> Result<(), AllocError>
-    ensures ok { OnOk result (values_of s.new ≡ assign (values_of s.old) (Key.Int IntParam.Mag) (Val.Int value)) }
+    ensures ok { OnOk result (mouth_of s.new ≡ with_values (assign (mouth_of s.old).values (Key.Int IntParam.Mag) (Val.Int value)) (mouth_of s.old)) }
     ensures kept { Keeps s.old s.new }
 {
     assign(s, Key::Int(IntParam::Mag), Val::Int(value))
@@ -19,8 +19,8 @@ pub fn one_assignment(s: &mut State, value: i32) -> Result<(), AllocError>
 
 /// A global assignment inside two groups.
 pub fn global_inside_two_groups(s: &mut State, value: i32) -> Result<(), Capacity>
-    ensures ok { OnOk result (values_of s.new
-        ≡ assign_global (begin (begin (values_of s.old) Simple) SemiSimple) (Key.Int IntParam.Mag) (Val.Int value)) }
+    ensures ok { OnOk result (mouth_of s.new ≡ with_values
+        (assign_global (begin (begin (mouth_of s.old).values Simple) SemiSimple) (Key.Int IntParam.Mag) (Val.Int value)) (mouth_of s.old)) }
     ensures kept { Keeps s.old s.new }
 {
     begin(s, GroupKind::Simple)?;
@@ -29,21 +29,18 @@ pub fn global_inside_two_groups(s: &mut State, value: i32) -> Result<(), Capacit
     Ok(())
 }
 
-/// The end of a group brings back what was assigned locally in it, whatever the key, and keeps what was assigned
-/// globally.
-#[tactic(auto, unfolding(etx_state::specs::Values::begin, etx_state::specs::Values::assign, etx_state::specs::Values::assign_global, etx_state::specs::Values::ended))]
-pub fn one_restored_and_one_kept(
-    s: &mut State,
-    unread: &mut Unread,
-    value: i32,
-) -> Result<(), Capacity>
-    ensures ok { OnOk result (values_of s.new ≡ assign_global (values_of s.old) (Key.Int IntParam.Tolerance) (Val.Int value)) }
+/// The end of a group brings back what was assigned locally in it, whatever the key, keeps what was assigned globally, and
+/// leaves all else as it was.
+#[tactic(auto, unfolding(etx_state::specs::Values::begin, etx_state::specs::Values::assign, etx_state::specs::Values::assign_global, etx_state::specs::Values::ended, etx_state::specs::Values::after, etx_state::specs::States::group_ended, etx_input::specs::Levels::with_list))]
+pub fn one_restored_and_one_kept(s: &mut State, value: i32) -> Result<(), Capacity>
+    ensures ok { OnOk result (mouth_of s.new ≡ with_values
+        (assign_global (mouth_of s.old).values (Key.Int IntParam.Tolerance) (Val.Int value)) (mouth_of s.old)) }
     ensures kept { Keeps s.old s.new }
 {
     begin(s, GroupKind::Simple)?;
     assign(s, Key::Int(IntParam::Mag), Val::Int(value))?;
     assign_global(s, Key::Int(IntParam::Tolerance), Val::Int(value))?;
-    match end(s, unread) {
+    match end(s) {
         Ok(_) => Ok(()),
         Err(_) => Err(Capacity::OutOfMemory),
     }

@@ -1,9 +1,10 @@
 //! Tests of the calls. The helpers have no contracts, so that each test is short to prove.
 use super::*;
+use etx_input::{Next, Origin};
 use etx_lists::Bytes;
 use etx_matter::{Job, NameId, PAR, Token};
 use etx_prims::{IntParam, Primitive};
-use etx_state::{Capacity, GroupKind, Key, Limit, Meaning, State, Unread, Val};
+use etx_state::{Capacity, GroupKind, Key, Limit, Meaning, State, Val};
 use std::alloc::{AllocError, Global};
 use std::test::Fail;
 
@@ -16,12 +17,12 @@ fn opens(s: &mut State, kind: GroupKind) -> bool {
     begin(s, kind).is_ok()
 }
 
-fn closes(s: &mut State, unread: &mut Unread) -> Option<GroupKind> {
-    end(s, unread).ok()
+fn closes(s: &mut State) -> Option<GroupKind> {
+    end(s).ok()
 }
 
-fn is_outermost(s: &mut State, unread: &mut Unread) -> bool {
-    matches!(end(s, unread), Err(NoGroup::Outermost))
+fn is_outermost(s: &mut State) -> bool {
+    matches!(end(s), Err(NoGroup::Outermost))
 }
 
 fn is_full(s: &mut State) -> bool {
@@ -45,6 +46,17 @@ fn notes(s: &mut State, parameter: u8) -> bool {
     after(s, Token::Param(parameter)).is_ok()
 }
 
+/// Whether this parameter is read next, as a fresh token.
+fn reads(s: &mut State, parameter: u8) -> bool {
+    match s.next() {
+        Ok(Next::Listed {
+            token: Token::Param(n),
+            origin: Origin::Fresh,
+        }) => n == parameter,
+        _ => false,
+    }
+}
+
 fn values(s: &State) -> (i32, i32) {
     (s.int(IntParam::Tolerance), s.int(IntParam::Mag))
 }
@@ -53,37 +65,33 @@ fn makes_at_a_letter(s: &mut State) -> bool {
     assign(s, Key::Category(64), Val::Category(11)).is_ok()
 }
 
-fn number(alloc: Global, s: &mut State, name: &[u8]) -> Option<u32> {
-    s.name(alloc, name).ok().map(|n| n.0)
+fn number(s: &mut State, name: &[u8]) -> Option<u32> {
+    s.name(name).ok().map(|n| n.0)
 }
 
 #[test]
 fn a_group_brings_the_old_value_back(rt: HostRuntime) -> Result<(), Fail> {
     let mut s = opened(rt.alloc())?;
-    let mut unread = Unread::new(rt.alloc());
     assert!(rt; opens(&mut s, GroupKind::Simple));
     assert!(rt; makes_at_a_letter(&mut s));
     assert_eq!(rt; s.category(64), 11);
-    assert_eq!(rt; closes(&mut s, &mut unread), Some(GroupKind::Simple));
+    assert_eq!(rt; closes(&mut s), Some(GroupKind::Simple));
     assert_eq!(rt; s.category(64), 12);
-    assert!(rt; is_outermost(&mut s, &mut unread));
+    assert!(rt; is_outermost(&mut s));
     Ok(())
 }
 
 #[test]
 fn ends_give_back_in_order(rt: HostRuntime) -> Result<(), Fail> {
     let mut s = opened(rt.alloc())?;
-    let mut unread = Unread::new(rt.alloc());
     assert!(rt; opens(&mut s, GroupKind::Simple) && sets(&mut s, 1, 2) && sets(&mut s, 3, 4));
     assert!(rt; opens(&mut s, GroupKind::SemiSimple) && sets(&mut s, 5, 6) && sets(&mut s, 7, 8));
     assert!(rt; sets_globally(&mut s, 9) && notes(&mut s, 1) && notes(&mut s, 2));
     assert_eq!(rt; values(&s), (7, 9));
-    assert_eq!(rt; closes(&mut s, &mut unread), Some(GroupKind::SemiSimple));
+    assert_eq!(rt; closes(&mut s), Some(GroupKind::SemiSimple));
     assert_eq!(rt; values(&s), (3, 9));
-    assert_eq!(rt; unread.pop(), Some(Token::Param(1)));
-    assert_eq!(rt; unread.pop(), Some(Token::Param(2)));
-    assert_eq!(rt; unread.pop(), None);
-    assert_eq!(rt; closes(&mut s, &mut unread), Some(GroupKind::Simple));
+    assert!(rt; reads(&mut s, 1) && reads(&mut s, 2) && s.input.depth() == 0);
+    assert_eq!(rt; closes(&mut s), Some(GroupKind::Simple));
     assert_eq!(rt; values(&s), (10_000, 9));
     Ok(())
 }
@@ -91,7 +99,6 @@ fn ends_give_back_in_order(rt: HostRuntime) -> Result<(), Fail> {
 #[test]
 fn ten_thousand_groups_and_one_more(rt: HostRuntime) -> Result<(), Fail> {
     let mut s = opened(rt.alloc())?;
-    let mut unread = Unread::new(rt.alloc());
     for _ in 0..10_000u32 {
         assert!(rt; opens(&mut s, GroupKind::Simple) && sets(&mut s, 7, 8));
     }
@@ -99,7 +106,7 @@ fn ten_thousand_groups_and_one_more(rt: HostRuntime) -> Result<(), Fail> {
     assert_eq!(rt; Limit::Groups.text(), b"groups=10000".as_slice());
     for _ in 0..10_000u32 {
         assert_eq!(rt; values(&s), (7, 8));
-        assert_eq!(rt; closes(&mut s, &mut unread), Some(GroupKind::Simple));
+        assert_eq!(rt; closes(&mut s), Some(GroupKind::Simple));
     }
     assert_eq!(rt; values(&s), (10_000, 1000));
     Ok(())
@@ -108,14 +115,13 @@ fn ten_thousand_groups_and_one_more(rt: HostRuntime) -> Result<(), Fail> {
 #[test]
 fn many_assignments_in_and_out_of_groups(rt: HostRuntime) -> Result<(), Fail> {
     let mut s = opened(rt.alloc())?;
-    let mut unread = Unread::new(rt.alloc());
     for n in 0..50_000i32 {
         if n % 10 == 0 {
             assert!(rt; opens(&mut s, GroupKind::Simple));
         }
         assert!(rt; sets(&mut s, n, n));
         if n % 20 == 19 {
-            assert!(rt; closes(&mut s, &mut unread).is_some());
+            assert!(rt; closes(&mut s).is_some());
         }
     }
     assert_eq!(rt; s.level(), 2500);
@@ -125,10 +131,10 @@ fn many_assignments_in_and_out_of_groups(rt: HostRuntime) -> Result<(), Fail> {
 #[test]
 fn names_have_one_number(rt: HostRuntime) -> Result<(), Fail> {
     let mut s = opened(rt.alloc())?;
-    assert_eq!(rt; number(rt.alloc(), &mut s, b"par"), Some(PAR.0));
-    assert_eq!(rt; number(rt.alloc(), &mut s, b"relax"), Some(1));
-    assert_eq!(rt; number(rt.alloc(), &mut s, b"mine"), Some(2));
-    assert_eq!(rt; number(rt.alloc(), &mut s, b"relax"), Some(1));
+    assert_eq!(rt; number(&mut s, b"par"), Some(PAR.0));
+    assert_eq!(rt; number(&mut s, b"relax"), Some(1));
+    assert_eq!(rt; number(&mut s, b"mine"), Some(2));
+    assert_eq!(rt; number(&mut s, b"relax"), Some(1));
     assert!(rt; matches!(s.meaning(PAR), Meaning::Primitive(Primitive::Par)));
     assert!(rt; matches!(s.meaning(NameId(1)), Meaning::Primitive(Primitive::Relax)));
     assert!(rt; matches!(s.meaning(NameId(2)), Meaning::Undefined));
@@ -140,10 +146,9 @@ fn names_have_one_number(rt: HostRuntime) -> Result<(), Fail> {
 #[test]
 fn a_change_in_place_stays_in_its_group(rt: HostRuntime) -> Result<(), Fail> {
     let mut s = opened(rt.alloc())?;
-    let mut unread = Unread::new(rt.alloc());
     assert!(rt; sets(&mut s, 1, 1) && opens(&mut s, GroupKind::Simple));
     s.set(Key::Int(IntParam::Mag), Val::Int(5))?;
-    assert!(rt; closes(&mut s, &mut unread).is_some());
+    assert!(rt; closes(&mut s).is_some());
     assert_eq!(rt; values(&s), (1, 5));
     Ok(())
 }

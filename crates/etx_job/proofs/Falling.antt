@@ -11,39 +11,39 @@ use Rattle.etx_job.specs.declared.scan.Scan.{Scan}
 use Rattle.etx_job.specs.declared.scan.Scan.TheVariants as scan
 use Rattle.etx_job.specs.Categories.{category_in}
 use Rattle.etx_job.specs.Rows.{scan_row}
-use Rattle.etx_job.specs.Input.{InputState, next_of}
-use Rattle.etx_job.specs.Turn.{Turned, turned, steps_of, token_turn, next_turn, reading_turn, source_turn, turn_of, source_of, resumed}
+use Rattle.etx_input.specs.Files.{FileState}
+use Rattle.etx_job.specs.Turn.{Turned, turned, steps_of, next_of, token_turn, next_turn, reading_turn, source_turn, turn_of, source_of, resumed}
 use Rattle.etx_job.specs.Measure.{Falls, Goes, IsNoMore, turns_before, turns_to_say}
 
 steps_more : (n : ℕ) (b : Bool) → n < n + steps_of b
 steps_more n true = omega arith
 steps_more n false = omega arith
 
-token_goes : (got : Option Lexed) (input : InputState) (v : Mouth) → Goes v (token_turn got input v)
-token_goes None input v = inl tt
-token_goes (Some got) input v = inr (inl (steps_more v.spent (scan_row v.scan got v.categories).plan.is_copied))
+token_goes : (got : Option Lexed) (file : FileState) (v : Mouth) → Goes v (token_turn got file v)
+token_goes None file v = inl tt
+token_goes (Some got) file v = inr (inl (steps_more v.spent (scan_row v.scan got v.categories).plan.is_copied))
 
-next_goes : (input : InputState) (v : Mouth) → Goes v (next_turn (next_of (category_in v.categories) input) v)
-next_goes input v = token_goes (next_of (category_in v.categories) input).got (next_of (category_in v.categories) input).input v
+next_goes : (file : FileState) (v : Mouth) → Goes v (next_turn (next_of (category_in v.categories) file) v)
+next_goes file v = token_goes (next_of (category_in v.categories) file).lexed (next_of (category_in v.categories) file).file v
 
-reading_goes : (s : Scan) (input : InputState) (v : Mouth) → v.scan ≡ s → Goes v (reading_turn s input v)
-reading_goes (scan.Say text) input v is = let one : turns_to_say v.scan ≡ 1 = ap turns_to_say is in inr (inr (refl, omega (arith, one)))
-reading_goes scan.Commands input v is = next_goes input v
-reading_goes scan.CatcodeQuote input v is = next_goes input v
-reading_goes scan.CatcodeCharacter input v is = next_goes input v
-reading_goes (scan.CatcodeEquals code) input v is = next_goes input v
-reading_goes (scan.CatcodeFirst code) input v is = next_goes input v
-reading_goes (scan.CatcodeSecond code value) input v is = next_goes input v
-reading_goes (scan.CatcodeSpace code value) input v is = next_goes input v
-reading_goes scan.MessageBrace input v is = next_goes input v
-reading_goes (scan.MessageText m) input v is = next_goes input v
+reading_goes : (s : Scan) (file : FileState) (v : Mouth) → v.scan ≡ s → Goes v (reading_turn s file v)
+reading_goes (scan.Say text) file v is = let one : turns_to_say v.scan ≡ 1 = ap turns_to_say is in inr (inr (refl, omega (arith, one)))
+reading_goes scan.Commands file v is = next_goes file v
+reading_goes scan.CatcodeQuote file v is = next_goes file v
+reading_goes scan.CatcodeCharacter file v is = next_goes file v
+reading_goes (scan.CatcodeEquals code) file v is = next_goes file v
+reading_goes (scan.CatcodeFirst code) file v is = next_goes file v
+reading_goes (scan.CatcodeSecond code value) file v is = next_goes file v
+reading_goes (scan.CatcodeSpace code value) file v is = next_goes file v
+reading_goes scan.MessageBrace file v is = next_goes file v
+reading_goes (scan.MessageText m) file v is = next_goes file v
 
 source_goes : (s : Source) (v : Mouth) → v.source ≡ s → Goes v (source_turn s v)
 source_goes (Unasked name) v is = let three : turns_before v.source ≡ 3 = ap turns_before is in inr (inr (refl, omega (arith, three)))
 source_goes (Awaited name) v is = inl tt
 source_goes (Absent name) v is = let one : turns_before v.source ≡ 1 = ap turns_before is in inr (inr (refl, omega (arith, one)))
 source_goes Refused v is = inl tt
-source_goes (Reading input) v is = reading_goes v.scan input v refl
+source_goes (Reading file) v is = reading_goes v.scan file v refl
 
 pub turn_goes : (v : Mouth) → Goes v (turn_of v)
 unfolding turn_of
@@ -60,7 +60,7 @@ answered_no_more (Awaited name) loaded.TooLong = omega arith
 answered_no_more (Awaited name) (loaded.Bytes text) = omega arith
 answered_no_more (Absent name) l = omega arith
 answered_no_more Refused l = omega arith
-answered_no_more (Reading input) l = omega arith
+answered_no_more (Reading file) l = omega arith
 
 pub resumed_no_more : (v : Mouth) (l : Loaded) → IsNoMore v (resumed v l)
 unfolding resumed
@@ -72,35 +72,35 @@ resumed_no_more_to v new l is = subst (λ (u : Mouth). IsNoMore v u) (sym is) (r
 -- ---- a turn over a source
 
 -- what is read doesn't hang on what the mouth read from before
-token_same : (got : Option Lexed) (input : InputState) (v : Mouth) (s : Source) → token_turn got input (record v { source = s }) ≡ token_turn got input v
-token_same None input v s = refl
-token_same (Some got) input v s = refl
+token_same : (got : Option Lexed) (file : FileState) (v : Mouth) (s : Source) → token_turn got file (record v { source = s }) ≡ token_turn got file v
+token_same None file v s = refl
+token_same (Some got) file v s = refl
 
-pub reading_same : (r : Scan) (input : InputState) (v : Mouth) (s : Source) → reading_turn r input (record v { source = s }) ≡ reading_turn r input v
-reading_same (scan.Say text) input v s = refl
-reading_same scan.Commands input v s = token_same (next_of (category_in v.categories) input).got (next_of (category_in v.categories) input).input v s
-reading_same scan.CatcodeQuote input v s = token_same (next_of (category_in v.categories) input).got (next_of (category_in v.categories) input).input v s
-reading_same scan.CatcodeCharacter input v s = token_same (next_of (category_in v.categories) input).got (next_of (category_in v.categories) input).input v s
-reading_same (scan.CatcodeEquals code) input v s = token_same (next_of (category_in v.categories) input).got (next_of (category_in v.categories) input).input v s
-reading_same (scan.CatcodeFirst code) input v s = token_same (next_of (category_in v.categories) input).got (next_of (category_in v.categories) input).input v s
-reading_same (scan.CatcodeSecond code value) input v s = token_same (next_of (category_in v.categories) input).got (next_of (category_in v.categories) input).input v s
-reading_same (scan.CatcodeSpace code value) input v s = token_same (next_of (category_in v.categories) input).got (next_of (category_in v.categories) input).input v s
-reading_same scan.MessageBrace input v s = token_same (next_of (category_in v.categories) input).got (next_of (category_in v.categories) input).input v s
-reading_same (scan.MessageText m) input v s = token_same (next_of (category_in v.categories) input).got (next_of (category_in v.categories) input).input v s
+pub reading_same : (r : Scan) (file : FileState) (v : Mouth) (s : Source) → reading_turn r file (record v { source = s }) ≡ reading_turn r file v
+reading_same (scan.Say text) file v s = refl
+reading_same scan.Commands file v s = token_same (next_of (category_in v.categories) file).lexed (next_of (category_in v.categories) file).file v s
+reading_same scan.CatcodeQuote file v s = token_same (next_of (category_in v.categories) file).lexed (next_of (category_in v.categories) file).file v s
+reading_same scan.CatcodeCharacter file v s = token_same (next_of (category_in v.categories) file).lexed (next_of (category_in v.categories) file).file v s
+reading_same (scan.CatcodeEquals code) file v s = token_same (next_of (category_in v.categories) file).lexed (next_of (category_in v.categories) file).file v s
+reading_same (scan.CatcodeFirst code) file v s = token_same (next_of (category_in v.categories) file).lexed (next_of (category_in v.categories) file).file v s
+reading_same (scan.CatcodeSecond code value) file v s = token_same (next_of (category_in v.categories) file).lexed (next_of (category_in v.categories) file).file v s
+reading_same (scan.CatcodeSpace code value) file v s = token_same (next_of (category_in v.categories) file).lexed (next_of (category_in v.categories) file).file v s
+reading_same scan.MessageBrace file v s = token_same (next_of (category_in v.categories) file).lexed (next_of (category_in v.categories) file).file v s
+reading_same (scan.MessageText m) file v s = token_same (next_of (category_in v.categories) file).lexed (next_of (category_in v.categories) file).file v s
 
 -- a scan that has nothing to say gets a token
-pub reading_other : (r : Scan) (input : InputState) (v : Mouth) → ((text : List ℕ) → r ≡ scan.Say text → ⊥) → reading_turn r input v ≡ next_turn (next_of (category_in v.categories) input) v
-reading_other (scan.Say text) input v other = absurd (other text refl)
-reading_other scan.Commands input v other = refl
-reading_other scan.CatcodeQuote input v other = refl
-reading_other scan.CatcodeCharacter input v other = refl
-reading_other (scan.CatcodeEquals code) input v other = refl
-reading_other (scan.CatcodeFirst code) input v other = refl
-reading_other (scan.CatcodeSecond code value) input v other = refl
-reading_other (scan.CatcodeSpace code value) input v other = refl
-reading_other scan.MessageBrace input v other = refl
-reading_other (scan.MessageText m) input v other = refl
+pub reading_other : (r : Scan) (file : FileState) (v : Mouth) → ((text : List ℕ) → r ≡ scan.Say text → ⊥) → reading_turn r file v ≡ next_turn (next_of (category_in v.categories) file) v
+reading_other (scan.Say text) file v other = absurd (other text refl)
+reading_other scan.Commands file v other = refl
+reading_other scan.CatcodeQuote file v other = refl
+reading_other scan.CatcodeCharacter file v other = refl
+reading_other (scan.CatcodeEquals code) file v other = refl
+reading_other (scan.CatcodeFirst code) file v other = refl
+reading_other (scan.CatcodeSecond code value) file v other = refl
+reading_other (scan.CatcodeSpace code value) file v other = refl
+reading_other scan.MessageBrace file v other = refl
+reading_other (scan.MessageText m) file v other = refl
 
-pub turn_reading : (v : Mouth) (input : InputState) (s : Source) → v.source ≡ Reading input → reading_turn v.scan input (record v { source = s }) ≡ turn_of v
+pub turn_reading : (v : Mouth) (file : FileState) (s : Source) → v.source ≡ Reading file → reading_turn v.scan file (record v { source = s }) ≡ turn_of v
 unfolding turn_of
-turn_reading v input s is = reading_same v.scan input v s ∙ sym (ap (λ (r : Source). source_turn r v) is)
+turn_reading v file s is = reading_same v.scan file v s ∙ sym (ap (λ (r : Source). source_turn r v) is)

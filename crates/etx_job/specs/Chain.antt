@@ -3,13 +3,14 @@ use Rattle.std.specs.Prelude.{◌≡◌, ℕ, zero, suc, List, [], ◌∷◌, �
 use Rattle.etx_outside.specs.Entries.{Files, Asked, History, files_after}
 use Rattle.etx_outside.specs.Loading.{load_of}
 use Rattle.etx_settle.specs.Deeds.{PenState, first_pen, entries, pen_after_all}
-use Rattle.etx_matter.specs.Ends.{fatal_text}
+use Rattle.etx_matter.specs.Ends.{fatal_text, limit_text}
 use Rattle.etx_matter.specs.declared.deed.Audience.TheVariants.{LogAndTerminal}
 use Rattle.etx_matter.specs.declared.deed.Deed.{Deed}
 use Rattle.etx_matter.specs.declared.deed.Deed.TheVariants.{Fresh, Text, Error, Create}
 use Rattle.etx_matter.specs.declared.end.FatalError.{FatalError}
+use Rattle.etx_matter.specs.declared.end.Limit.{Limit}
 use Rattle.etx_matter.specs.declared.end.End.{End}
-use Rattle.etx_matter.specs.declared.end.End.TheVariants.{Ended, Fatal, Spent, Unbuilt}
+use Rattle.etx_matter.specs.declared.end.End.TheVariants.{Ended, Fatal, Hundred, Capacity, Spent, Unbuilt}
 use Rattle.etx_matter.specs.Jobs.{JobState}
 use Rattle.etx_job.specs.declared.mouth.Mouth.{Mouth}
 use Rattle.etx_job.specs.declared.scan.Yield.{Yield}
@@ -54,10 +55,20 @@ reason_of why = codes "*** (" ++ fatal_text why ++ codes ")\n"
 abbrev pub closing_fatally : FatalError → ℕ → List Deed
 closing_fatally why line = Error (codes "Emergency stop") line LogAndTerminal ∷ printed (reason_of why) ∷ last_line
 
+-- the text of a limit that would have been passed
+abbrev pub full_text : Limit → List ℕ
+full_text limit = codes "TeX capacity exceeded, sorry [" ++ limit_text limit ++ codes "]"
+
+-- its error, and the last line
+abbrev pub closing_full : Limit → ℕ → List Deed
+closing_full limit line = Error (full_text limit) line LogAndTerminal ∷ last_line
+
 -- what an end adds, where the line that was read last has this number
 abbrev pub closing : End → ℕ → List Deed
 closing Ended line = last_line
 closing (Fatal why) line = closing_fatally why line
+closing Hundred line = closing_by (codes "(That makes 100 errors; please try again.)\n")
+closing (Capacity limit) line = closing_full limit line
 closing Spent line = closing_by (codes "*** (step budget spent)\n")
 closing Unbuilt line = closing_by (codes "*** (not built yet)\n")
 

@@ -2,7 +2,6 @@ pub mod Categories
 pub mod Chain
 pub mod Fault
 pub mod Going
-pub mod Input
 pub mod Meaning
 pub mod Measure
 pub mod Messages

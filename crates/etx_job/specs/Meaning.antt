@@ -23,6 +23,8 @@ ended_status false = Clean
 abbrev pub status_of : End → Bool → Status
 status_of end.Ended has_erred = ended_status has_erred
 status_of (end.Fatal why) has_erred = Stopped
+status_of end.Hundred has_erred = Stopped
+status_of (end.Capacity limit) has_erred = Stopped
 status_of end.Spent has_erred = Spent
 status_of end.Unbuilt has_erred = Stopped
 

@@ -1,5 +1,5 @@
 -- One turn of the mouth: what becomes of it, and what it yields.
-use Rattle.std.specs.Prelude.{ℕ, ◌+◌, Bool, true, false, List, ◌++◌, Option, Some, None, codes}
+use Rattle.std.specs.Prelude.{ℕ, ◌+◌, ℤ, pos, Bool, true, false, List, ◌++◌, Option, Some, None, codes}
 use Rattle.etx_outside.specs.declared.tree.Loaded.{Loaded}
 use Rattle.etx_outside.specs.declared.tree.Loaded.TheVariants as loaded
 use Rattle.etx_matter.specs.declared.deed.Audience.TheVariants.{LogAndTerminal}
@@ -9,7 +9,7 @@ use Rattle.etx_matter.specs.declared.end.End.TheVariants.{Fatal, Unbuilt}
 use Rattle.etx_matter.specs.declared.end.FatalError.TheVariants.{NoLegalEnd, FileError}
 use Rattle.etx_lexer.specs.declared.lexed.Lexed.{Lexed}
 use Rattle.etx_job.specs.Categories.{initial_categories, category_in}
-use Rattle.etx_job.specs.Input.{InputState, Next, unread, next_of}
+use Rattle.etx_input.specs.Files.{FileState, Got, unread, got_of}
 use Rattle.etx_job.specs.Rows.{Planned, scan_row}
 use Rattle.etx_job.specs.declared.mouth.Mouth.{Mouth}
 use Rattle.etx_job.specs.declared.mouth.Source.{Source}
@@ -37,7 +37,7 @@ line_number_in (Unasked name) = 0
 line_number_in (Awaited name) = 0
 line_number_in (Absent name) = 0
 line_number_in Refused = 0
-line_number_in (Reading input) = input.number
+line_number_in (Reading file) = file.number
 
 unfoldable pub line_number_of : Mouth → ℕ
 line_number_of v = line_number_in v.source
@@ -62,21 +62,29 @@ steps_of true = 2
 steps_of false = 1
 
 -- what a row made of a token
-abbrev pub planned_turn : Planned → InputState → Mouth → Turned
-planned_turn p input v = turned (record { source = Reading input; scan = p.plan.scan; categories = p.categories; spent = v.spent + steps_of p.plan.is_copied }) p.plan.did
+abbrev pub planned_turn : Planned → FileState → Mouth → Turned
+planned_turn p file v = turned (record { source = Reading file; scan = p.plan.scan; categories = p.categories; spent = v.spent + steps_of p.plan.is_copied }) p.plan.did
 
 -- a token is got, if there is one
-abbrev pub token_turn : Option Lexed → InputState → Mouth → Turned
-token_turn None input v = turned (record v { source = Reading input }) (Done (over v.scan))
-token_turn (Some got) input v = planned_turn (scan_row v.scan got v.categories) input v
+abbrev pub token_turn : Option Lexed → FileState → Mouth → Turned
+token_turn None file v = turned (record v { source = Reading file }) (Done (over v.scan))
+token_turn (Some got) file v = planned_turn (scan_row v.scan got v.categories) file v
 
-abbrev pub next_turn : Next → Mouth → Turned
-next_turn next v = token_turn next.got next.input v
+abbrev pub next_turn : Got → Mouth → Turned
+next_turn next v = token_turn next.lexed next.file v
+
+-- the code of the character that ends each line: \endlinechar
+abbrev pub end_of_line_code : ℤ
+end_of_line_code = pos 13
+
+-- what the main file gives next
+abbrev pub next_of : (ℕ → ℕ) → FileState → Got
+next_of cats file = got_of cats end_of_line_code file
 
 -- a text is said before the next token is got
-abbrev pub reading_turn : Scan → InputState → Mouth → Turned
-reading_turn (scan.Say text) input v = turned (record v { source = Reading input; scan = scan.Commands }) (Act (Text text LogAndTerminal))
-reading_turn s input v = next_turn (next_of (category_in v.categories) input) v
+abbrev pub reading_turn : Scan → FileState → Mouth → Turned
+reading_turn (scan.Say text) file v = turned (record v { source = Reading file; scan = scan.Commands }) (Act (Text text LogAndTerminal))
+reading_turn s file v = next_turn (next_of (category_in v.categories) file) v
 
 abbrev pub cant_find : List ℕ → List ℕ
 cant_find name = codes "I can't find file `" ++ name ++ codes "'"
@@ -87,7 +95,7 @@ source_turn (Unasked name) v = turned (record v { source = Awaited name }) (Load
 source_turn (Awaited name) v = turned (record v { source = Refused }) (Done (Fatal FileError))
 source_turn (Absent name) v = turned (record v { source = Refused }) (Act (Error (cant_find name) 0 LogAndTerminal))
 source_turn Refused v = turned (record v { source = Refused }) (Done (Fatal FileError))
-source_turn (Reading input) v = reading_turn v.scan input v
+source_turn (Reading file) v = reading_turn v.scan file v
 
 unfoldable pub turn_of : Mouth → Turned
 turn_of v = source_turn v.source v
@@ -100,7 +108,7 @@ source_of (Awaited name) loaded.TooLong = Refused
 source_of (Awaited name) (loaded.Bytes text) = Reading (unread text)
 source_of (Absent name) loaded = Refused
 source_of Refused loaded = Refused
-source_of (Reading input) loaded = Refused
+source_of (Reading file) loaded = Refused
 
 -- the mouth takes the answer of a load
 unfoldable pub resumed : Mouth → Loaded → Mouth

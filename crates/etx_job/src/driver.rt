@@ -8,7 +8,7 @@ ghost use Rattle.etx_outside.specs.Outside.{Outside, outside_of, after, Front, F
 ghost use Rattle.etx_settle.specs.Deeds.{JournalState, AllOpen, first_pen};
 ghost use Rattle.etx_job.specs.Measure.{Falls, IsNoMore};
 ghost use Rattle.etx_job.specs.Words.{log_name};
-ghost use Rattle.etx_job.specs.Chain.{Start, printed, last_line, closing_by, reason_of, closing_fatally, closing};
+ghost use Rattle.etx_job.specs.Chain.{Start, printed, last_line, closing_by, reason_of, closing_fatally, closing_full, closing};
 ghost use Rattle.etx_job.specs.Meaning.{AtAsk};
 ghost use Rattle.etx_job.specs.Going.{more_waiting, IsFor, Going, AfterTurn, Asks, Cut, Settled};
 
@@ -17,7 +17,7 @@ use crate::mouth::Mouth;
 use crate::scan::Yield;
 use crate::words::name_log;
 use etx_lists::Bytes;
-use etx_matter::{Audience, Deed, End, FatalError, Job};
+use etx_matter::{Audience, Deed, End, FatalError, Job, Limit};
 use etx_outside::{Loaded, Terminal, Tree, TreeFault};
 use etx_settle::Journal;
 use std::alloc::{AllocError, Global};
@@ -84,6 +84,27 @@ fn close_fatally(
     Ok(())
 }
 
+/// The error of a limit that would have been passed, and the last line.
+fn close_full(
+    alloc: Global,
+    limit: Limit,
+    line: u32,
+    journal: &mut Journal,
+) -> Result<(), AllocError>
+    ensures { OnOk result (journal.new ≡ more_waiting journal.old (closing_full limit line)) }
+{
+    let mut text = Bytes::from_slice(alloc, b"TeX capacity exceeded, sorry [")?;
+    text.extend_from_slice(limit.text())?;
+    text.extend_from_slice(b"]")?;
+    journal.push(Deed::Error {
+        text,
+        line,
+        audience: BOTH,
+    })?;
+    print_last_line(alloc, journal)?;
+    Ok(())
+}
+
 /// Lets what an end adds wait, where the line that was read last has this number.
 fn close(alloc: Global, end: End, line: u32, journal: &mut Journal) -> Result<(), AllocError>
     ensures { OnOk result (journal.new ≡ more_waiting journal.old (closing end line)) }
@@ -91,6 +112,12 @@ fn close(alloc: Global, end: End, line: u32, journal: &mut Journal) -> Result<()
     match end {
         End::Ended => print_last_line(alloc, journal),
         End::Fatal(why) => close_fatally(alloc, why, line, journal),
+        End::Hundred => close_by(
+            alloc,
+            b"(That makes 100 errors; please try again.)\n",
+            journal,
+        ),
+        End::Capacity(limit) => close_full(alloc, limit, line, journal),
         End::Spent => close_by(alloc, b"*** (step budget spent)\n", journal),
         End::Unbuilt => close_by(alloc, b"*** (not built yet)\n", journal),
     }

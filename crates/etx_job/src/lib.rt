@@ -7,7 +7,6 @@
 mod categories;
 mod driver;
 mod fault;
-mod input;
 mod law;
 mod message;
 mod mouth;

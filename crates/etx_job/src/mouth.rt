@@ -1,18 +1,20 @@
 //! The mouth of a job: it reads the main file, and one turn handles one token.
 ghost use Rattle.std.specs.Prelude.{◌≡◌, ◌≤◌, ◌<◌, ◌+◌, ◌^◌, IfOk, OnOk};
 ghost use Rattle.etx_job.specs.Categories.{category_in};
-ghost use Rattle.etx_job.specs.Turn.{turn_of, first_mouth, line_number_in, line_number_of, over, steps_of, next_turn, reading_turn, cant_find, source_of, resumed};
-ghost use Rattle.etx_job.specs.Input.{next_of};
+ghost use Rattle.etx_job.specs.Turn.{turn_of, first_mouth, line_number_in, line_number_of, over, steps_of, next_of, next_turn, reading_turn, cant_find, source_of, resumed};
 ghost use Rattle.etx_job.specs.Measure.{Goes, IsNoMore};
 
 use crate::categories::Categories;
-use crate::input::Input;
 use crate::rows::handle;
 use crate::scan::{Scan, Yield};
+use etx_input::FileInput;
 use etx_lists::Bytes;
 use etx_matter::{Audience, Deed, End, FatalError};
 use etx_outside::Loaded;
 use std::alloc::{AllocError, Global};
+
+/// The code of the character that ends each line, the value of `\endlinechar`.
+const END_OF_LINE: i32 = 13;
 
 /// What the mouth reads from.
 #[derive(Drop)]
@@ -26,7 +28,7 @@ pub enum Source {
     /// The main file can't be read.
     Refused,
     /// The main file.
-    Reading(Input),
+    Reading(FileInput),
 }
 
 /// The mouth of a job, between two turns.
@@ -79,7 +81,7 @@ impl Source {
         ensures { result ≡ line_number_in self.now }
     {
         match self {
-            Source::Reading(input) => input.number(),
+            Source::Reading(file) => file.number(),
             Source::Unasked(_) | Source::Awaited(_) | Source::Absent(_) | Source::Refused => 0,
         }
     }
@@ -92,7 +94,7 @@ impl Source {
             Source::Awaited(name) => match loaded {
                 Loaded::Absent => Ok(Source::Absent(name)),
                 Loaded::TooLong => Ok(Source::Refused),
-                Loaded::Bytes(text) => Ok(Source::Reading(Input::new(alloc, text)?)),
+                Loaded::Bytes(text) => Ok(Source::Reading(FileInput::new(alloc, text)?)),
             },
             _ => Ok(Source::Refused),
         }
@@ -148,43 +150,43 @@ impl Mouth {
                     audience: Audience::LogAndTerminal,
                 }))
             }
-            Source::Reading(input) => {
-                let did = self.read(alloc, input)?;
+            Source::Reading(file) => {
+                let did = self.read(alloc, file)?;
                 Ok(did)
             }
         }
     }
 
     /// Says what is to be said, or gets a token of the main file and does with it what the scan is for.
-    fn read(&mut self, alloc: Global, input: Input) -> Result<Yield, AllocError>
+    fn read(&mut self, alloc: Global, file: FileInput) -> Result<Yield, AllocError>
         requires { self.old.spent + 2 < 2 ^ 64 }
-        ensures now { OnOk result (self.new ≡ (reading_turn self.old.scan input self.old).now) }
-        ensures did { IfOk result (λ did. did ≡ (reading_turn self.old.scan input self.old).did) }
+        ensures now { OnOk result (self.new ≡ (reading_turn self.old.scan file self.old).now) }
+        ensures did { IfOk result (λ did. did ≡ (reading_turn self.old.scan file self.old).did) }
     {
         let scan = std::mem::replace(&mut self.scan, Scan::Commands);
         match scan {
             Scan::Say(bytes) => {
-                self.source = Source::Reading(input);
+                self.source = Source::Reading(file);
                 Ok(Yield::Act(Deed::Text {
                     bytes,
                     audience: Audience::LogAndTerminal,
                 }))
             }
             scan => {
-                let did = self.take(alloc, scan, input)?;
+                let did = self.take(alloc, scan, file)?;
                 Ok(did)
             }
         }
     }
 
     /// Gets a token of the main file for a scan.
-    fn take(&mut self, alloc: Global, scan: Scan, mut input: Input) -> Result<Yield, AllocError>
+    fn take(&mut self, alloc: Global, scan: Scan, mut file: FileInput) -> Result<Yield, AllocError>
         requires { self.old.spent + 2 < 2 ^ 64 }
-        ensures now { OnOk result (self.new ≡ (next_turn (next_of (category_in self.old.categories) input) (record self.old { scan = scan })).now) }
-        ensures did { IfOk result (λ did. did ≡ (next_turn (next_of (category_in self.old.categories) input) (record self.old { scan = scan })).did) }
+        ensures now { OnOk result (self.new ≡ (next_turn (next_of (category_in self.old.categories) file) (record self.old { scan = scan })).now) }
+        ensures did { IfOk result (λ did. did ≡ (next_turn (next_of (category_in self.old.categories) file) (record self.old { scan = scan })).did) }
     {
-        let got = input.next(alloc, &self.categories)?;
-        self.source = Source::Reading(input);
+        let got = file.next(alloc, END_OF_LINE, &self.categories)?;
+        self.source = Source::Reading(file);
         match got {
             None => {
                 let end = find_over(&scan);

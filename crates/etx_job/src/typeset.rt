@@ -43,7 +43,7 @@ fn find_status(ending: Ending) -> Status
             }
         }
         End::Spent => Status::Spent,
-        End::Fatal(_) | End::Unbuilt => Status::Stopped,
+        End::Fatal(_) | End::Hundred | End::Capacity(_) | End::Unbuilt => Status::Stopped,
     }
 }
 

@@ -1,6 +1,6 @@
 //! How a job ends, and what the program answers.
 ghost use Rattle.std.specs.Prelude.{◌≡◌};
-ghost use Rattle.etx_matter.specs.Ends.{exit_status_of, fatal_text};
+ghost use Rattle.etx_matter.specs.Ends.{exit_status_of, fatal_text, limit_text};
 
 /// An error after which TeX can't go on ("TeX: The Program", section 93).
 #[derive(Clone, Copy, Debug, PartialEq, Eq)]
@@ -23,6 +23,33 @@ impl FatalError {
     }
 }
 
+/// A quantity with a limit, at which a job ends.
+#[derive(Clone, Copy, Debug, PartialEq, Eq)]
+pub enum Limit {
+    /// Names of control sequences.
+    Names,
+    /// Open groups.
+    Groups,
+    /// Input levels: files, and token lists that are read.
+    InputLevels,
+    /// Scans in progress.
+    Scans,
+}
+
+impl Limit {
+    /// What stands in the brackets of `TeX capacity exceeded, sorry [..]`: the quantity and its limit.
+    pub fn text(self) -> &'static [u8]
+        ensures { result.now ≡ limit_text self }
+    {
+        match self {
+            Limit::Names => b"hash size=1048576",
+            Limit::Groups => b"groups=10000",
+            Limit::InputLevels => b"input stack size=10000",
+            Limit::Scans => b"scans=10000",
+        }
+    }
+}
+
 /// The end of a job.
 #[derive(Clone, Copy, Debug, PartialEq, Eq)]
 pub enum End {
@@ -30,6 +57,10 @@ pub enum End {
     Ended,
     /// An error after which the job can't go on.
     Fatal(FatalError),
+    /// A hundred errors were reported since the last paragraph ended ("TeX: The Program", section 82).
+    Hundred,
+    /// A limit of the engine would have been passed ("TeX: The Program", section 94).
+    Capacity(Limit),
     /// The next step would have passed the job's budget.
     Spent,
     /// The source asks for something that this stage of `etx` doesn't have yet.

@@ -1,16 +1,39 @@
-//! The data that every layer of `etx` speaks of: tokens, jobs, the ends of a job, and deeds, which are what a job does
-//! to the outside.
+//! The data that every layer of `etx` speaks of: tokens, nodes and lists of them, jobs, the ends of a job, and deeds, which
+//! are what a job does to the outside.
 #![tactic(auto)]
 
+mod boxed;
+mod category;
+mod copies;
 mod deed;
 mod end;
+mod glue;
 mod job;
+mod math;
+mod measures;
+mod nests;
+mod node;
+#[cfg(test)]
+mod node_tests;
+mod page;
+mod sizes;
 #[cfg(test)]
 mod tests;
 mod token;
+mod whats;
 
+pub use boxed::Boxed;
+pub use category::Category;
+pub use copies::copy_nodes;
 pub use deed::{Audience, Deed};
-pub use end::{End, FatalError, Status};
+pub use end::{End, FatalError, Limit, Status};
 pub use etx_lists::{Bytes, Listed, MOST};
+pub use glue::{Glue, GlueOrder, GlueSet};
 pub use job::{GREATEST_BUDGET, Job};
-pub use token::{NameId, PAR, Token, Tokens};
+pub use math::{AtomKind, Class8, Delim, LimitPlace, MathChar, Side, Style, StyleSize};
+pub use nests::{DEEPEST, nesting};
+pub use node::{BoxNode, Field, KernKind, Leader, LeaderKind, Noad, Noads, Node, Nodes, UnsetBox};
+pub use page::{ClassBox, ClassMarks, Fired, LastItem, PageAsk, PageTotal, Quantity, Removal};
+pub use sizes::{BoxSize, CharSize, Class, Goal, Limits, Report, ReportKind, RuleSize, Size};
+pub use token::{FROZEN_INACCESSIBLE, NameId, PAR, Token, Tokens};
+pub use whats::What;

@@ -7,6 +7,10 @@ pub struct NameId(pub u32);
 /// The number of the name `par`, which is the same in every job: a paragraph's end is known by it.
 pub const PAR: NameId = NameId(0);
 
+/// The control sequence that takes a definition where the source names none. No text can name it: its number is none of
+/// a name's, since those are below 2^20 ("TeX: The Program", section 1216).
+pub const FROZEN_INACCESSIBLE: NameId = NameId(1_048_576);
+
 /// A token, as "TeX: The Program", section 289, has it.
 #[derive(Clone, Copy, Debug, PartialEq, Eq)]
 pub enum Token {

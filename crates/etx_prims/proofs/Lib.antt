@@ -2,3 +2,4 @@ pub mod Searching
 pub mod Sorted
 pub mod Covers
 pub mod Laws
+pub mod Named

@@ -7,3 +7,4 @@ pub mod Material
 pub mod Math
 pub mod Names
 pub mod Rising
+pub mod Lookup

@@ -3,6 +3,7 @@ ghost use Rattle.std.specs.Ordering.{nat_cmp};
 ghost use Rattle.std.specs.Cmp.Lexicographic.{slice_cmp};
 ghost use Rattle.etx_prims.specs.Names.{name_of};
 ghost use Rattle.etx_prims.specs.Rising.{HasRisingNames};
+ghost use Rattle.etx_prims.specs.Lookup.{primitive_named};
 
 use crate::assignments::{
     ArithmeticKind, CharDefKind, DefKind, HyphenDataKind, InteractionKind, LetKind, PrefixKind,
@@ -429,6 +430,7 @@ fn find(table: &[Primitive], name: &[u8]) -> Option<Primitive>
 pub fn lookup(name: &[u8]) -> Option<Primitive>
     ensures found { (primitive : Primitive) → (result ≡ Some primitive) ↔ (name.now ≡ name_of primitive) }
     ensures absent { IfNone result ((primitive : Primitive) → name.now ≢ name_of primitive) }
+    ensures value { result ≡ primitive_named name.now }
 {
     find(&SORTED, name)
 }

@@ -1,8 +1,9 @@
 -- Badness grows with what is to be filled.
-use Rattle.std.proofs.Common.{◌≡◌, ◌<◌, ◌≤◌, ◌+◌, ◌*◌, ◌/◌, ℕ, zero, suc, ℤ, pos, negsuc, nat_le, false, true, inl, inr, arith, refl}
+use Rattle.std.proofs.Common.{◌≡◌, ◌<◌, ◌≤◌, ◌+◌, ◌*◌, ◌/◌, ℕ, zero, suc, ℤ, pos, negsuc, ◌≤ℤ◌, nat_le, false, true, inl, inr, arith, refl}
 use Rattle.std.proofs.Math.Nat.{div-mul-le_self, mul-le-mul_left, mul-le-mul_right}
 use Rattle.std.proofs.lemmas.Nat.{le-div, mul-le}
 use Rattle.std.proofs.lemmas.Bool.{cases_lt}
+use Rattle.std.proofs.lemmas.Int.{ints}
 use Rattle.std.proofs.lemmas.Bool.Decides.{nat_tests}
 use Rattle.etx_scaled.specs.Badness.{ratio_of, badness_at, badness_of}
 
@@ -88,3 +89,9 @@ badness_grows (suc t) zero s h = absurd (omega arith)
 badness_grows (suc t) (suc u) (negsuc s) h = omega arith
 badness_grows (suc t) (suc u) (pos zero) h = omega arith
 badness_grows (suc t) (suc u) (pos (suc s)) h = ratio_grows (suc t) (suc u) (suc s) (omega arith) h
+
+pub badness_without : (t : ℕ) (s : ℤ) → 0 < t → s ≤ℤ pos 0 → badness_of t s ≡ 10000
+badness_without zero s some none = absurd (omega arith)
+badness_without (suc t) (negsuc s) some none = refl
+badness_without (suc t) (pos zero) some none = refl
+badness_without (suc t) (pos (suc s)) some none = absurd (omega (arith, ints))

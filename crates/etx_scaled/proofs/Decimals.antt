@@ -1,5 +1,7 @@
 -- The digits that are printed, one at a time.
-use Rattle.std.proofs.Common.{◌≡◌, ◌<◌, ◌≤◌, ◌+◌, ◌-◌, ◌*◌, ◌/◌, ◌%◌, ◌^◌, ℕ, zero, suc, [], ◌∷◌, ◌++◌, nat_le, false, true, arith, refl, ap}
+use Rattle.std.proofs.Common.{◌≡◌, ◌<◌, ◌≤◌, ◌+◌, ◌-◌, ◌*◌, ◌/◌, ◌%◌, ◌^◌, ℕ, zero, suc, inl, inr, [], ◌∷◌, ◌++◌, nat_le, false, true, arith, refl, ap}
+use Rattle.std.proofs.Math.Nat.{pow-suc}
+use Rattle.std.proofs.lemmas.Bool.{cases_lt}
 use Rattle.std.proofs.lemmas.Bool.Decides.{nat_tests}
 use Rattle.std.specs.Fmt.{decimal}
 use Rattle.std.proofs.lemmas.Fmt.{decimal_step, decimal_digit}
@@ -21,6 +23,39 @@ unfolding fraction_digits
 more places s delta t digit less =
     let test : nat_le (10 * (t % 65536)) (10 * delta) ≡ false = grind (arith, nat_tests) in
     rw (← digit, test) refl
+
+-- the first digit alone, where all that a digit can leave is small enough
+at_once : (places s delta : ℕ) → 65536 ≤ delta → fraction_digits (suc places) s delta ≡ rounded s delta / 65536 ∷ []
+at_once places s delta enough = last places s delta (rounded s delta) refl (omega arith)
+
+-- digits behind the first that are the same for two numbers of places
+after_first : (p q s delta : ℕ) → fraction_digits p (10 * (rounded s delta % 65536)) (10 * delta) ≡ fraction_digits q (10 * (rounded s delta % 65536)) (10 * delta) →
+    fraction_digits (suc p) s delta ≡ fraction_digits (suc q) s delta
+after_first p q s delta same = elim (cases_lt (10 * delta) (10 * (rounded s delta % 65536))) [
+  | inl less ↦ rw (more p s delta (rounded s delta) refl less, more q s delta (rounded s delta) refl less, same) refl
+  | inr enough ↦ rw (last p s delta (rounded s delta) refl enough, last q s delta (rounded s delta) refl enough) refl
+]
+
+ten_times : (delta power : ℕ) → 65536 ≤ delta * (power * 10) → 65536 ≤ 10 * delta * power
+ten_times delta power h = omega arith
+
+-- a place more changes nothing, where the digits end without it
+one_more : (k places s delta : ℕ) → k ≤ places → 65536 ≤ delta * 10 ^ k → fraction_digits (suc (suc places)) s delta ≡ fraction_digits (suc places) s delta
+one_more zero places s delta h enough =
+    let small : 65536 ≤ delta = omega arith in
+    rw (at_once (suc places) s delta small, at_once places s delta small) refl
+one_more (suc k) zero s delta h enough = absurd (omega arith)
+one_more (suc k) (suc places) s delta h enough =
+    after_first (suc (suc places)) (suc places) s delta
+    (one_more k places (10 * (rounded s delta % 65536)) (10 * delta) (omega arith) (ten_times delta (10 ^ k) (rw (← pow-suc 10 k) enough)))
+
+pub places_enough : (f places : ℕ) → 5 ≤ places → fraction_digits places (10 * f + 5) 10 ≡ fraction_digits 5 (10 * f + 5) 10
+places_enough f zero h = absurd (omega arith)
+places_enough f (suc zero) h = absurd (omega arith)
+places_enough f (suc (suc places)) h = elim (cases_lt (suc places) 5) [
+  | inl few ↦ let e : places ≡ 3 = omega arith in rw e refl
+  | inr more ↦ rw (one_more 4 places (10 * f + 5) 10 (omega arith) (omega arith)) (places_enough f (suc places) more)
+]
 
 -- the same of the bytes that show them
 pub fraction_digits-none : (places s delta : ℕ) → places ≡ 0 → glyphs (fraction_digits places s delta) ≡ []

@@ -7,7 +7,9 @@ abbrev pub rounded : ℕ → ℕ → ℕ
 rounded s delta = if nat_lt 65536 delta then s + 32768 - 50000 else s
 
 -- the digits of s / 655360, at most so many and at least one, until they are within delta / 655360:
--- "TeX: The Program", section 103
+-- "TeX: The Program", section 103. The number of places is there only so that the recursion is seen to end: where delta
+-- begins with 10, it is 100000 at the fifth digit, and what a digit leaves, below 655360, is then within ten times that.
+-- So five places are enough, and with more the digits are the same (the law `decimals_read_back`).
 unfoldable pub fraction_digits : ℕ → ℕ → ℕ → List ℕ
 fraction_digits zero s delta = []
 fraction_digits (suc places) s delta =

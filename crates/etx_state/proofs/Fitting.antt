@@ -1,9 +1,9 @@
 -- INITEX's values fit their keys.
-use Rattle.std.proofs.Common.{ℕ, zero, suc, ◌≤◌, Bool, true, false, arith, if◌then◌else◌}
+use Rattle.std.proofs.Common.{ℕ, ◌≤◌, Bool, true, false, arith, if◌then◌else◌}
 use Rattle.etx_state.specs.declared.key.Key.{Key}
 use Rattle.etx_state.specs.declared.key.Key.TheVariants as key
-use Rattle.etx_state.specs.Initial.{first_of, first_category, first_meaning}
-use Rattle.etx_state.specs.Fits.{Fits, IsMeaning}
+use Rattle.etx_state.specs.Initial.{first_of, first_category}
+use Rattle.etx_state.specs.Fits.{Fits}
 
 either : (b : Bool) (m n : ℕ) → m ≤ 15 → n ≤ 15 → (if b then m else n) ≤ 15
 either true m n hm hn = hm
@@ -15,11 +15,9 @@ category_small c =
     either _ 0 _ (omega arith) (either _ 11 _ (omega arith) (either _ 10 _ (omega arith) (either _ 5 _ (omega arith)
     (either _ 14 _ (omega arith) (either _ 9 _ (omega arith) (either _ 15 12 (omega arith) (omega arith)))))))
 
-meaning_fits : (n : ℕ) → IsMeaning (first_meaning n)
-meaning_fits zero = tt
-meaning_fits (suc n) = tt
-
 pub first_fits : (q : Key) → Fits q (first_of q)
 first_fits (key.Category code) = category_small code
-first_fits (key.Meaning name) = meaning_fits name
+first_fits (key.Meaning name) = tt
+first_fits (key.Active code) = tt
 first_fits (key.Int parameter) = tt
+first_fits key.AfterAssignment = tt

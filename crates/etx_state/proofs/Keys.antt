@@ -49,7 +49,10 @@ first e = λ i. (e i, tt)
 pub exact_key : CmpEqualImpliesEq (KeyOrd.ghosts).cmp
 exact_key x y e = values_one key.enum x y (exact_by key.enum.parts _ (
   λ x y e. first (exact_unsigned x.0 y.0 e),
-  (λ x y e. first (exact_unsigned x.0 y.0 e), (λ x y e. first (exact_param x.0 y.0 e), tt)),
+  (λ x y e. first (exact_unsigned x.0 y.0 e),
+  (λ x y e. first (exact_unsigned x.0 y.0 e),
+  (λ x y e. first (exact_param x.0 y.0 e),
+  (λ x y e. refl, tt)))),
 ) (key.as_values x) (key.as_values y) e)
 
 pub exact_slot : CmpEqualImpliesEq slot_cmp

@@ -1,9 +1,10 @@
 -- Names, and where they stand.
-use Rattle.std.proofs.Common.{◌≡◌, ◌≢◌, ℕ, zero, suc, ◌+◌, ◌<◌, ◌≤◌, List, [], ◌∷◌, ◌++◌, Some, None, Bool, true, false, refl, sym, ◌∙◌, ap, subst, arith, map, length, take, slice_get, if◌then◌else◌, position, cond, not, ◌⊎◌, inl, inr, ⊎_elim}
+use Rattle.std.proofs.Common.{◌≡◌, ◌≢◌, ℕ, zero, suc, ◌+◌, ◌<◌, ◌≤◌, List, [], ◌∷◌, ◌++◌, Some, None, Bool, true, false, refl, sym, ◌∙◌, ap, subst, arith, map, length, take, slice_get, if◌then◌else◌, position, cond, not, nat_eq, ◌||◌, ◌⊎◌, inl, inr, ⊎_elim}
 use Rattle.std.specs.List.{position_or_len, list_any}
+use Rattle.std.specs.Cmp.Lexicographic.{pointwise}
 use Rattle.std.proofs.lemmas.Grind.{common_steps}
 use Rattle.std.proofs.lemmas.List.{map-append, length-append}
-use Rattle.etx_state.specs.Naming.{IsApart, IsFresh}
+use Rattle.etx_state.specs.Naming.{IsApart, IsFresh, has_name, place_of}
 
 tested : {C : Type 0} (b : Bool) → (b ≡ true → C) → (b ≡ false → C) → C
 tested true f g = f refl
@@ -125,3 +126,55 @@ module _ {K : Type 0} (view : K → List ℕ) (p : K → Bool) (name : List ℕ)
       let long : length ks' ≡ length (map view ks ++ name ∷ []) = sym (length_mapped view ks') ∙ ap length names in
       let more : length (map view ks ++ name ∷ []) ≡ length (map view ks) + 1 = length-append (map view ks) (name ∷ []) in
       (omega arith, subst IsApart (sym names) (apart_pushed (map view ks) name apart fresh-name))
+
+-- places in a list, and in what it stands for
+
+any_mapped : {K : Type 0} (view : K → List ℕ) (name : List ℕ) (ks : List K) → list_any (λ k. pointwise nat_eq name (view k)) ks ≡ has_name (map view ks) name
+unfolding has_name
+any_mapped view name [] = refl
+any_mapped view name (k ∷ ks) = ap (λ (b : Bool). pointwise nat_eq name (view k) || b) (any_mapped view name ks)
+
+place_mapped : {K : Type 0} (view : K → List ℕ) (name : List ℕ) (ks : List K) → position_or_len (λ k. pointwise nat_eq name (view k)) ks ≡ place_of (map view ks) name
+unfolding place_of
+place_mapped view name [] = refl
+place_mapped view name (k ∷ ks) = ap (λ (n : ℕ). cond (not (pointwise nat_eq name (view k))) (1 + n) 0) (place_mapped view name ks)
+
+any_by : {K : Type 0} (p : K → Bool) (b : Bool) (k : K) (ks : List K) → p k ≡ b → (position_or_len p ks < length ks → list_any p ks ≡ true)
+    → cond (not b) (1 + position_or_len p ks) 0 < suc (length ks) → b || list_any p ks ≡ true
+any_by p true k ks e rest h = refl
+any_by p false k ks e rest h = rest (omega arith)
+
+any_within : {K : Type 0} (p : K → Bool) (ks : List K) → position_or_len p ks < length ks → list_any p ks ≡ true
+any_within p [] h = absurd (omega arith)
+any_within p (k ∷ ks) h = any_by p (p k) k ks refl (any_within p ks) h
+
+module _ {K : Type 0} (view : K → List ℕ) (name : List ℕ) (ks : List K) where
+  pub known_some : (i : ℕ) → position (λ k. pointwise nat_eq name (view k)) ks ≡ Some i → has_name (map view ks) name ≡ true
+  known_some i e =
+      let inside : position_or_len (λ k. pointwise nat_eq name (view k)) ks < length ks = grind (arith, common_steps) in
+      sym (any_mapped view name ks) ∙ any_within (λ k. pointwise nat_eq name (view k)) ks inside
+
+  pub place_some : (i : ℕ) → position (λ k. pointwise nat_eq name (view k)) ks ≡ Some i → place_of (map view ks) name ≡ i
+  place_some i e =
+      let at : position_or_len (λ k. pointwise nat_eq name (view k)) ks ≡ i = grind (arith, common_steps) in
+      sym (place_mapped view name ks) ∙ at
+
+  pub place_below : (most i : ℕ) → position (λ k. pointwise nat_eq name (view k)) ks ≡ Some i → length ks ≤ most → i < most
+  place_below most i e h = grind (arith, common_steps)
+
+  pub place_none : position (λ k. pointwise nat_eq name (view k)) ks ≡ None → place_of (map view ks) name ≡ length (map view ks)
+  place_none e =
+      let past : position_or_len (λ k. pointwise nat_eq name (view k)) ks ≡ length ks = grind (arith, common_steps) in
+      sym (place_mapped view name ks) ∙ past ∙ sym (length_mapped view ks)
+
+any_false : (names : List (List ℕ)) (name : List ℕ) (sound : (other : List ℕ) → pointwise nat_eq name other ≡ true → other ≡ name) → IsFresh names name → list_any (pointwise nat_eq name) names ≡ false
+unfolding IsFresh
+any_false [] name sound h = refl
+any_false (n ∷ names) name sound h = tested (pointwise nat_eq name n)
+    (λ e. absurd (h zero (ap Some (sound n e))))
+    (λ e. let rest : list_any (pointwise nat_eq name) names ≡ false = any_false names name sound (λ m. h (suc m)) in cc)
+
+-- a name that is at no place is none of them
+pub unknown_fresh : (names : List (List ℕ)) (name : List ℕ) (sound : (other : List ℕ) → pointwise nat_eq name other ≡ true → other ≡ name) → IsFresh names name → has_name names name ≡ false
+unfolding has_name
+unknown_fresh names name sound fresh = any_false names name sound fresh

@@ -1,5 +1,5 @@
 -- The values that INITEX starts with ("TeX: The Program", sections 232, 240 and 241: a job starts at noon on 4 July 1776).
-use Rattle.std.specs.Prelude.{ℕ, zero, suc, ℤ, pos, ◌==◌, ◌&&◌, ◌||◌, if◌then◌else◌, nat_le}
+use Rattle.std.specs.Prelude.{None, ℕ, zero, suc, ℤ, pos, ◌==◌, ◌&&◌, ◌||◌, if◌then◌else◌, nat_le}
 use Rattle.etx_prims.specs.declared.parameters.IntParam.{IntParam}
 use Rattle.etx_prims.specs.declared.parameters.IntParam.TheVariants as param
 use Rattle.etx_state.specs.declared.key.Key.{Key}
@@ -45,4 +45,6 @@ first_meaning (suc name) = Undefined
 abbrev pub first_of : Key → Val
 first_of (key.Category code) = val.Category (first_category code)
 first_of (key.Meaning name) = val.Means (first_meaning name)
+first_of (key.Active code) = val.Means Undefined
 first_of (key.Int parameter) = val.Int (first_int parameter)
+first_of key.AfterAssignment = val.Kept None

@@ -1,9 +1,19 @@
 -- Names of control sequences, each under the number that is its place in a list.
-use Rattle.std.specs.Prelude.{◌≡◌, ◌≢◌, ℕ, List, Some, slice_get}
-use Rattle.etx_prims.specs.declared.command.Primitive.{Primitive}
-use Rattle.etx_prims.specs.Names.{name_of}
-use Rattle.etx_state.specs.declared.key.Meaning.{Meaning}
-use Rattle.etx_state.specs.declared.key.Meaning.TheVariants as meanings
+use Rattle.std.specs.Prelude.{◌≡◌, ◌≢◌, ℕ, Bool, List, Some, slice_get, nat_eq}
+use Rattle.std.specs.Cmp.Lexicographic.{pointwise}
+use Rattle.std.specs.List.{position_or_len, list_any}
+
+-- whether two names are the same
+abbrev pub is_name : List ℕ → List ℕ → Bool
+is_name name other = pointwise nat_eq name other
+
+-- whether the name is among these
+unfoldable pub has_name : List (List ℕ) → List ℕ → Bool
+has_name names name = list_any (is_name name) names
+
+-- the place of the first of these names that is this one, or else their number
+unfoldable pub place_of : List (List ℕ) → List ℕ → ℕ
+place_of names name = position_or_len (is_name name) names
 
 -- no name has two numbers
 unfoldable pub IsApart : List (List ℕ) → Type 0
@@ -12,9 +22,3 @@ IsApart names = (name : List ℕ) (m n : ℕ) → slice_get names m ≡ Some nam
 -- the name has no number
 unfoldable pub IsFresh : List (List ℕ) → List ℕ → Type 0
 IsFresh names name = (n : ℕ) → slice_get names n ≢ Some name
-
--- what a name means before any assignment to it: the primitive of this name, and nothing where there is none
-abbrev pub IsFirstMeaning : List ℕ → Meaning → Type 0
-IsFirstMeaning name (meanings.Primitive primitive) = name ≡ name_of primitive
-IsFirstMeaning name meanings.Undefined = (primitive : Primitive) → name ≢ name_of primitive
-IsFirstMeaning name (meanings.Char code cat) = ⊥

@@ -3,15 +3,21 @@ ghost use Rattle.etx_state.specs.Fits.{Fits};
 ghost use Rattle.etx_state.specs.Values.{assign, assign_global, change, begin, ended, kind, after, noted};
 ghost use Rattle.etx_state.specs.Saves.{values_in, KeepsIn, IsSound};
 
+use crate::initial::Firsts;
 use crate::key::{GroupKind, Key, Val};
+use crate::noted::Noted;
 use crate::saves;
 use crate::slot::{Cell, Content, Item, Slot};
-use crate::unread::Unread;
 use etx_matter::Token;
 use etx_undo::Store;
 use std::alloc::AllocError;
 
-pub fn assign(store: &mut Store<Slot, Content>, key: Key, value: Val) -> Result<(), AllocError>
+pub fn assign(
+    store: &mut Store<Slot, Content>,
+    firsts: &Firsts,
+    key: Key,
+    value: Val,
+) -> Result<(), AllocError>
     requires sound { IsSound store.old }
     requires fits { Fits key value }
     ensures ok { OnOk result (values_in store.new ≡ assign (values_in store.old) key value) }
@@ -23,7 +29,7 @@ pub fn assign(store: &mut Store<Slot, Content>, key: Key, value: Val) -> Result<
         saves::put_cell(store, key, Cell { value, level })?;
         return Ok(());
     }
-    let cell = saves::cell(store, key)?;
+    let cell = saves::cell(store, firsts, key)?;
     saves::push(store, Item::Undo { key, cell })?;
     saves::put_cell(store, key, Cell { value, level })?;
     Ok(())
@@ -83,16 +89,16 @@ pub fn after(store: &mut Store<Slot, Content>, token: Token) -> Result<(), Alloc
 
 pub fn end(
     store: &mut Store<Slot, Content>,
-    input: &mut Unread,
+    noted: &mut Noted,
 ) -> Result<Option<GroupKind>, AllocError>
     requires { IsSound store.old }
     ensures kind { IfOk result (λ o. o ≡ kind (values_in store.old)) }
     ensures ok { OnOk result (values_in store.new ≡ ended (values_in store.old)) }
-    ensures after { OnOk result (input.new ≡ after (values_in store.old) ++ input.old) }
+    ensures after { OnOk result (noted.new ≡ after (values_in store.old) ++ noted.old) }
     ensures sound { IsSound store.new }
     ensures kept { KeepsIn store.old store.new }
 {
-    let kind = saves::unwind(store, input)?;
+    let kind = saves::unwind(store, noted)?;
     Ok(kind)
 }
 

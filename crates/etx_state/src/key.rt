@@ -1,6 +1,8 @@
 //! What is kept: keys, and the values under them.
 ghost use Rattle.std.specs.Prelude.{◌≡◌, IfOk};
 
+use crate::definition::Macro;
+use etx_matter::Token;
 use etx_prims::{IntParam, Primitive};
 use std::alloc::AllocError;
 
@@ -11,19 +13,45 @@ pub enum Key {
     Category(u8),
     /// The meaning of a control sequence, by the number of its name.
     Meaning(u32),
+    /// The meaning of an active character, by its code.
+    Active(u8),
     /// An integer parameter.
     Int(IntParam),
+    /// The token that `\afterassignment` keeps.
+    AfterAssignment,
 }
 
-/// What a control sequence means.
-#[derive(Clone, Copy)]
+/// What a token means.
+#[derive(Drop)]
 pub enum Meaning {
     /// Nothing.
     Undefined,
     /// A command of the engine.
     Primitive(Primitive),
-    /// A character and a category, at most 15, to which it was made equal.
+    /// A character and a category, as a token has them.
     Char { code: u8, cat: u8 },
+    /// A macro.
+    Macro(Macro),
+}
+
+impl Meaning {
+    /// The same meaning. A macro is shared, and not copied: the only want is of room in the count of those that share it.
+    pub fn share(&self) -> Result<Meaning, AllocError>
+        ensures { IfOk result (λ meaning. meaning ≡ self.now) }
+    {
+        match self {
+            Meaning::Undefined => Ok(Meaning::Undefined),
+            Meaning::Primitive(primitive) => Ok(Meaning::Primitive(*primitive)),
+            Meaning::Char { code, cat } => Ok(Meaning::Char {
+                code: *code,
+                cat: *cat,
+            }),
+            Meaning::Macro(definition) => {
+                let shared = definition.share()?;
+                Ok(Meaning::Macro(shared))
+            }
+        }
+    }
 }
 
 /// A value that is kept under a key. Which ones a key may have, `Fits` in `specs/` says.
@@ -31,21 +59,27 @@ pub enum Meaning {
 pub enum Val {
     /// The category of a character.
     Category(u8),
-    /// The meaning of a control sequence.
+    /// The meaning of a control sequence or of an active character.
     Means(Meaning),
     /// An integer.
     Int(i32),
+    /// A token, if one is kept.
+    Kept(Option<Token>),
 }
 
 impl Val {
-    /// The same value. A value that owns memory will be shared, and not copied.
+    /// The same value. A value that owns memory is shared, and not copied.
     pub fn share(&self) -> Result<Val, AllocError>
         ensures { IfOk result (λ value. value ≡ self.now) }
     {
         match self {
             Val::Category(category) => Ok(Val::Category(*category)),
-            Val::Means(meaning) => Ok(Val::Means(*meaning)),
+            Val::Means(meaning) => {
+                let meaning = meaning.share()?;
+                Ok(Val::Means(meaning))
+            }
             Val::Int(number) => Ok(Val::Int(*number)),
+            Val::Kept(token) => Ok(Val::Kept(*token)),
         }
     }
 }

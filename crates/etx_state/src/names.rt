@@ -1,7 +1,7 @@
 //! The names of control sequences, and their numbers.
-ghost use Rattle.std.specs.Prelude.{◌≡◌, ◌≢◌, ◌∷◌, [], ◌++◌, ◌≤◌, ◌<◌, length, take, slice_get, codes, option_copied, OnOk, OnErr, IfOk, MatchOption, ℕ, Some};
+ghost use Rattle.std.specs.Prelude.{◌≡◌, true, false, ◌≢◌, ◌∷◌, [], ◌++◌, ◌≤◌, ◌<◌, length, take, slice_get, codes, option_copied, OnOk, OnErr, IfOk, IfSome, MatchOption, ℕ, Some};
 ghost use Rattle.std.specs.Option.{option_map};
-ghost use Rattle.etx_state.specs.Naming.{IsApart, IsFresh};
+ghost use Rattle.etx_state.specs.Naming.{IsApart, IsFresh, has_name, place_of};
 
 use etx_matter::NameId;
 use indexmap::IndexSet;
@@ -49,6 +49,9 @@ impl Names {
     /// The number of the name. `None` exactly where it has none.
     pub fn find(&self, name: &[u8]) -> Option<NameId>
         ensures found { MatchOption result (IsFresh self.now name.now) (λ number. slice_get self.now number.0 ≡ Some name.now) }
+        ensures known { MatchOption result (has_name self.now name.now ≡ false) (λ _. has_name self.now name.now ≡ true) }
+        ensures place { MatchOption result (place_of self.now name.now ≡ length self.now) (λ number. place_of self.now name.now ≡ number.0) }
+        ensures small { IfSome result (λ number. number.0 < 1048576) }
         ensures apart { IsApart self.now }
     {
         match self.texts.get_index_of(name) {

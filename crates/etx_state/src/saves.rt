@@ -24,10 +24,10 @@ ghost use Rattle.etx_state.specs.Saves.{
 };
 ghost use Rattle.etx_state.specs.Fits.{Fits};
 
-use crate::initial::first;
+use crate::initial::Firsts;
 use crate::key::{GroupKind, Key};
+use crate::noted::Noted;
 use crate::slot::{Cell, Content, Item, Sizes, Slot};
-use crate::unread::Unread;
 use etx_matter::Token;
 use etx_undo::Store;
 use std::alloc::AllocError;
@@ -61,13 +61,17 @@ pub fn sizes(store: &Store<Slot, Content>) -> Sizes
 }
 
 #[tactic(auto, unfolding(crate::specs::Saves::here))]
-pub fn cell(store: &Store<Slot, Content>, key: Key) -> Result<Cell, AllocError>
+pub fn cell(
+    store: &Store<Slot, Content>,
+    firsts: &Firsts,
+    key: Key,
+) -> Result<Cell, AllocError>
     ensures { IfOk result (λ cell. cell ≡ cells_of store.now key) }
 {
     match store.get(&Slot::At(key)) {
         Some(Content::Held(cell)) => cell.share(),
         _ => Ok(Cell {
-            value: first(key).share()?,
+            value: firsts.get(key).share()?,
             level: 0,
         }),
     }
@@ -254,13 +258,13 @@ fn undo(store: &mut Store<Slot, Content>, key: Key, was: Cell) -> Result<(), All
 /// Takes items off the stack up to the beginning of the group.
 pub fn unwind(
     store: &mut Store<Slot, Content>,
-    input: &mut Unread,
+    noted: &mut Noted,
 ) -> Result<Option<GroupKind>, AllocError>
     requires { IsSound store.old }
-    ensures kind { IfOk result (λ o. o ≡ (left_of input.old (items_of store.old) (cells_of store.old)).kind) }
-    ensures input { OnOk result (input.new ≡ (left_of input.old (items_of store.old) (cells_of store.old)).input) }
-    ensures items { OnOk result (items_of store.new ≡ (left_of input.old (items_of store.old) (cells_of store.old)).items) }
-    ensures cells { OnOk result (cells_of store.new ≡ (left_of input.old (items_of store.old) (cells_of store.old)).cells) }
+    ensures kind { IfOk result (λ o. o ≡ (left_of noted.old (items_of store.old) (cells_of store.old)).kind) }
+    ensures input { OnOk result (noted.new ≡ (left_of noted.old (items_of store.old) (cells_of store.old)).input) }
+    ensures items { OnOk result (items_of store.new ≡ (left_of noted.old (items_of store.old) (cells_of store.old)).items) }
+    ensures cells { OnOk result (cells_of store.new ≡ (left_of noted.old (items_of store.old) (cells_of store.old)).cells) }
     ensures sound { IsSound store.new }
     ensures kept { KeepsIn store.old store.new }
 {
@@ -271,7 +275,7 @@ pub fn unwind(
                 return Ok(Some(kind));
             }
             Item::After(token) => {
-                input.push(token)?;
+                noted.push(token)?;
                 drop_top(store, &Item::After(token))?;
             }
             Item::Undo { key, cell } => undo(store, key, cell)?,

@@ -1,16 +1,18 @@
 //! The values of the state, in groups, over one store.
-ghost use Rattle.std.specs.Prelude.{◌≡◌, ◌++◌, ℕ, OnOk, OnErr, IfOk};
+ghost use Rattle.std.specs.Prelude.{◌≡◌, ◌≤◌, ◌++◌, ℕ, OnOk, OnErr, IfOk};
 ghost use Rattle.etx_undo.specs.History.{place};
 ghost use Rattle.etx_state.specs.Fits.{Fits};
 ghost use Rattle.etx_state.specs.Values.{get, assign, assign_global, change, begin, ended, kind, after, noted, level, outermost};
 ghost use Rattle.etx_state.specs.Initial.{first_of};
+ghost use Rattle.etx_state.specs.Reading.{category_in};
 ghost use Rattle.etx_state.specs.Saves.{values_in, values_in_at, KeepsIn, IsKeptIn, cells_of, IsSound};
 
-use crate::initial::first;
+use crate::initial::Firsts;
 use crate::key::{GroupKind, Key, Val};
+use crate::noted::Noted;
 use crate::slot::{Content, Slot};
-use crate::unread::Unread;
 use crate::{groups, saves};
+use etx_lexer::CatOf;
 use etx_matter::Token;
 use etx_undo::{Mark, Store};
 use std::alloc::{AllocError, Global};
@@ -20,6 +22,7 @@ use std::marker::Model;
 #[derive(Drop)]
 pub struct Scopes {
     store: Store<Slot, Content>,
+    firsts: Firsts,
 }
 
 impl Model for Scopes {
@@ -43,6 +46,7 @@ impl Scopes {
     {
         Scopes {
             store: Store::new(alloc),
+            firsts: Firsts::new(),
         }
     }
 
@@ -54,6 +58,18 @@ impl Scopes {
         self.held(key)
     }
 
+    /// The category of a character, at most 15.
+    #[tactic(auto, unfolding(crate::specs::Reading::category_in))]
+    pub fn category(&self, code: u8) -> u8
+        ensures value { result ≡ category_in (values_in self.now) code }
+        ensures small { result ≤ 15 }
+    {
+        match self.get(Key::Category(code)) {
+            Val::Category(category) => *category,
+            _ => unreachable!(),
+        }
+    }
+
     #[tactic(auto, unfolding(crate::specs::Saves::here))]
     fn held(&self, key: Key) -> &Val
         ensures value { result.now ≡ (cells_of self.now key).value }
@@ -61,7 +77,7 @@ impl Scopes {
     {
         match self.store.get(&Slot::At(key)) {
             Some(Content::Held(cell)) => &cell.value,
-            _ => first(key),
+            _ => self.firsts.get(key),
         }
     }
 
@@ -85,7 +101,7 @@ impl Scopes {
         ensures ok { OnOk result (values_in self.new ≡ assign (values_in self.old) key value) }
         ensures kept { KeepsIn self.old self.new }
     {
-        groups::assign(&mut self.store, key, value)
+        groups::assign(&mut self.store, &self.firsts, key, value)
     }
 
     /// Writes the outermost map, and takes the key out of all others.
@@ -125,17 +141,18 @@ impl Scopes {
     }
 
     /// The end of the innermost group, whose kind it answers.
-    pub fn end(&mut self, unread: &mut Unread) -> Result<Option<GroupKind>, AllocError>
+    pub fn end(&mut self, noted: &mut Noted) -> Result<Option<GroupKind>, AllocError>
         ensures kind { IfOk result (λ o. o ≡ kind (values_in self.old)) }
         ensures ok { OnOk result (values_in self.new ≡ ended (values_in self.old)) }
-        ensures after { OnOk result (unread.new ≡ after (values_in self.old) ++ unread.old) }
+        ensures after { OnOk result (noted.new ≡ after (values_in self.old) ++ noted.old) }
         ensures kept { KeepsIn self.old self.new }
     {
-        groups::end(&mut self.store, unread)
+        groups::end(&mut self.store, noted)
     }
 
     /// The place now.
     pub fn mark(&self) -> Mark
+        ensures place { result.place ≡ place self.now }
         ensures live { IsKeptIn result.place self.now self.now }
         ensures values { values_in_at self.now result.place ≡ values_in self.now }
     {
@@ -148,5 +165,13 @@ impl Scopes {
         ensures values { values_in self.new ≡ values_in self.old }
     {
         self.store.forget();
+    }
+}
+
+impl CatOf for Scopes {
+    ghost category = { λ scopes code. category_in (values_in scopes) code };
+
+    fn cat(&self, code: u8) -> u8 {
+        self.category(code)
     }
 }

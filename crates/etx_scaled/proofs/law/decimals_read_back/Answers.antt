@@ -1,3 +1,4 @@
+use Rattle.etx_scaled.proofs.Decimals.{places_enough}
 use Rattle.etx_scaled.proofs.Readings.{fraction_printed, fraction_reads, fraction_shortest}
 use Rattle.etx_scaled.proofs.Texts.{text_reads}
 use Rattle.etx_scaled.proofs.law.decimals_read_back.Goals as goal
@@ -19,3 +20,6 @@ returns-clause-few c = λ f h. (fraction_printed f h).few
 
 pub returns-clause-shortest : goal.returns-clause-shortest
 returns-clause-shortest c = fraction_shortest
+
+pub returns-clause-places : goal.returns-clause-places
+returns-clause-places c = places_enough

@@ -4,7 +4,7 @@ use Rattle.etx_state.proofs.saves.unwind.Given as goal
 
 abbrev pub invariant-loop-item : goal.invariant-loop-item
 invariant-loop-item l = record {
-  left : left_of l.input (items_of l.store) (cells_of l.store) ≡ left_of l.initial.input (items_of l.initial.store) (cells_of l.initial.store);
+  left : left_of l.noted (items_of l.store) (cells_of l.store) ≡ left_of l.initial.noted (items_of l.initial.store) (cells_of l.initial.store);
   sound : IsSound l.store;
   kept : KeepsIn l.initial.store l.store;
 }

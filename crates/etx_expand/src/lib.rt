@@ -1,0 +1,22 @@
+//! Expansion: one turn of the mouth's machine.
+//!
+//! The mouth is an explicit machine. What it is in the middle of stands on a stack in its state; [`turn`] handles one
+//! token for what is on top, and [`want`] puts a wish there. What becomes of a token is decided by rows, which answer a
+//! [`Move`] as data, and [`make`] alone carries moves out. The rules are those of "TeX: The Program", sections 332 to
+//! 405 and 464 to 478.
+#![tactic(auto)]
+
+mod get;
+mod meaning;
+mod moves;
+mod plan;
+mod printing;
+mod row;
+mod turn;
+
+pub use meaning::{Reading, is_expandable};
+pub use moves::make;
+pub use plan::{Failure, Move, Push, Turned, Value, Want};
+pub use printing::{push_name, said_text};
+pub use row::Brace;
+pub use turn::{turn, want};

@@ -1,0 +1,5 @@
+pub mod Files
+pub mod Gifts
+pub mod Levels
+pub mod Lists
+pub mod Waiting

@@ -1,0 +1,13 @@
+-- A list of tokens as it is read.
+use Rattle.std.specs.Prelude.{Bool, true, false, List, [], ◌∷◌}
+use Rattle.etx_matter.specs.declared.token.Token.{Token}
+use Rattle.etx_input.specs.declared.origin.Origin.{Origin}
+
+-- the tokens that were not taken yet
+pub record ListState : Type 0 where
+  pub rest : List Token
+  pub origin : Origin
+
+abbrev pub is_empty : List Token → Bool
+is_empty [] = true
+is_empty (t ∷ ts) = false

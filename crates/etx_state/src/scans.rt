@@ -1,0 +1,62 @@
+//! The stack of scans in progress.
+ghost use Rattle.std.specs.Prelude.{◌≡◌, ◌↔◌, ◌∷◌, [], length, IsTrue, OnOk, OnErr, MatchOption};
+
+use crate::scan::Entry;
+use std::alloc::{AllocError, Global};
+use std::marker::Model;
+
+/// Scans in progress, and what else waits among them. Contracts see them as a list, what was pushed last first.
+#[derive(Drop)]
+pub struct Scans {
+    items: Vec<Entry>,
+}
+
+impl Model for Scans {
+    ghost use Rattle.std.specs.Prelude.{List, reverse};
+    ghost use Rattle.etx_state.specs.declared.scan.Entry.{Entry};
+
+    ghost Value = { List Entry };
+
+    ghost view = { λ s. reverse s.items.items };
+}
+
+impl Scans {
+    /// No entries. Takes no memory.
+    pub fn new(alloc: Global) -> Scans
+        ensures { result ≡ [] }
+    {
+        Scans {
+            items: Vec::new(alloc),
+        }
+    }
+
+    /// How many entries there are.
+    pub fn len(&self) -> usize
+        ensures { result ≡ length self.now }
+    {
+        self.items.len()
+    }
+
+    /// Whether there are none.
+    pub fn is_empty(&self) -> bool
+        ensures { IsTrue result ↔ (self.now ≡ []) }
+    {
+        self.items.is_empty()
+    }
+
+    /// One more entry. After an `Err` the entries are what they were.
+    pub fn push(&mut self, entry: Entry) -> Result<(), AllocError>
+        ensures ok { OnOk result (self.new ≡ entry ∷ self.old) }
+        ensures err { OnErr result (self.new ≡ self.old) }
+    {
+        self.items.push(entry)?;
+        Ok(())
+    }
+
+    /// Takes the entry that was pushed last. `None` exactly where there is none.
+    pub fn pop(&mut self) -> Option<Entry>
+        ensures { MatchOption result ((self.old ≡ []) × (self.new ≡ [])) (λ entry. self.old ≡ entry ∷ self.new) }
+    {
+        self.items.pop()
+    }
+}
