@@ -413,7 +413,7 @@ fn fed(
         if !matcher.is_going() {
             return Ok(None);
         }
-        last = matcher.feed(token_of(*byte));
+        last = matcher.feed(token_of(*byte))?;
     }
     Ok(Some((last, matcher)))
 }
