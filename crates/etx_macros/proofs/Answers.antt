@@ -5,10 +5,10 @@ use Rattle.etx_matter.specs.declared.token.Token.{Token}
 use Rattle.etx_macros.specs.declared.fault.MatchFault.{MatchFault}
 use Rattle.etx_macros.specs.declared.fault.MatchFault.TheVariants.{DoesNotMatch, ParagraphEnded, ExtraBrace}
 use Rattle.etx_macros.specs.declared.fault.Fed.{Fed}
-use Rattle.etx_macros.specs.declared.fault.Fed.TheVariants.{More, Done, Fault, OutOfMemory}
+use Rattle.etx_macros.specs.declared.fault.Fed.TheVariants.{More, Done, Fault}
 use Rattle.etx_macros.specs.Marks.{has_category, is_par}
 use Rattle.etx_macros.specs.Calls.{MatchesCall, Begins, NoCall}
-use Rattle.etx_macros.specs.Says.{IsLast, Why, Says, IsAnswer}
+use Rattle.etx_macros.specs.Says.{IsLast, Why, Says}
 use Rattle.etx_macros.proofs.Refusals.{par_not_right}
 use Rattle.etx_macros.proofs.Unique.{one_call}
 
@@ -36,17 +36,13 @@ more_not_done long parts args tokens b m =
 none_done : (long : Bool) (parts args : List (List Token)) (tokens : List Token) → NoCall long parts tokens → MatchesCall long parts tokens args → ⊥
 none_done long parts args tokens none m = none [] args (subst (λ (c : List Token). MatchesCall long parts c args) (sym (append-nil tokens)) m)
 
-pub one_answer : (fed other : Fed) (long : Bool) (parts : List (List Token)) (tokens : List Token) → IsAnswer fed → IsAnswer other → Says fed long parts tokens → Says other long parts tokens → fed ≡ other
-one_answer More More long parts tokens i j h k = refl
-one_answer More Done long parts tokens i j h k = absurd (more_not_done long parts k.0 tokens h k.1)
-one_answer More (Fault g) long parts tokens i j h k = absurd (k.0 h.rest h.args h.matched)
-one_answer More OutOfMemory long parts tokens i j h k = absurd j
-one_answer Done More long parts tokens i j h k = absurd (more_not_done long parts h.0 tokens k h.1)
-one_answer Done Done long parts tokens i j h k = refl
-one_answer Done (Fault g) long parts tokens i j h k = absurd (none_done long parts h.0 tokens k.0 h.1)
-one_answer Done OutOfMemory long parts tokens i j h k = absurd j
-one_answer (Fault f) More long parts tokens i j h k = absurd (h.0 k.rest k.args k.matched)
-one_answer (Fault f) Done long parts tokens i j h k = absurd (none_done long parts k.0 tokens h.0 k.1)
-one_answer (Fault f) (Fault g) long parts tokens i j h k = ap (λ x. let o : Fed = Fault x in o) (one_why f g long parts tokens h.1 k.1)
-one_answer (Fault f) OutOfMemory long parts tokens i j h k = absurd j
-one_answer OutOfMemory other long parts tokens i j h k = absurd i
+pub one_answer : (fed other : Fed) (long : Bool) (parts : List (List Token)) (tokens : List Token) → Says fed long parts tokens → Says other long parts tokens → fed ≡ other
+one_answer More More long parts tokens h k = refl
+one_answer More Done long parts tokens h k = absurd (more_not_done long parts k.0 tokens h k.1)
+one_answer More (Fault g) long parts tokens h k = absurd (k.0 h.rest h.args h.matched)
+one_answer Done More long parts tokens h k = absurd (more_not_done long parts h.0 tokens k h.1)
+one_answer Done Done long parts tokens h k = refl
+one_answer Done (Fault g) long parts tokens h k = absurd (none_done long parts h.0 tokens k.0 h.1)
+one_answer (Fault f) More long parts tokens h k = absurd (h.0 k.rest k.args k.matched)
+one_answer (Fault f) Done long parts tokens h k = absurd (none_done long parts k.0 tokens h.0 k.1)
+one_answer (Fault f) (Fault g) long parts tokens h k = ap (λ x. let o : Fed = Fault x in o) (one_why f g long parts tokens h.1 k.1)

@@ -6,15 +6,17 @@ use Rattle.std.proofs.lemmas.Bool.{false≢true, cases_lt}
 use Rattle.std.proofs.lemmas.List.Elements.{All-get_or}
 use Rattle.etx_matter.specs.declared.token.Token.{Token}
 use Rattle.etx_matter.specs.declared.token.Token.TheVariants.{Char}
-use Rattle.etx_macros.specs.declared.matcher.Matcher.{Matcher}
 use Rattle.etx_macros.specs.declared.fault.Fed.{Fed}
-use Rattle.etx_macros.specs.declared.fault.Fed.TheVariants.{More, Done, Fault, OutOfMemory}
+use Rattle.etx_macros.specs.declared.fault.Fed.TheVariants.{More, Done, Fault}
 use Rattle.etx_macros.specs.Marks.{has_category, is_par, depth_of, IsBalanced, IsDelimiter}
-use Rattle.etx_macros.specs.Calls.{IsGroup, inner_of, Gives, ParsAreAllowed, AreSpaces, IsDelimited, IsArgument, MatchesCall, with_argument, Begins}
+use Rattle.etx_macros.specs.Calls.{IsGroup, Gives, ParsAreAllowed, AreSpaces, IsDelimited, IsArgument, MatchesCall, with_argument, Begins}
 use Rattle.etx_macros.specs.Within.{InGroup, InDelimited, Within}
+use Rattle.etx_macros.specs.State.{MatcherState}
+use Rattle.etx_macros.specs.Feeding.{argument_of}
 use Rattle.etx_macros.specs.Progress.{InText, InArgument, IsAfter, IsWhole, Comes, Means}
-use Rattle.etx_macros.proofs.Depths.{depth_push, group_needs_two, group_opens, group_closes, group_inside, group_from}
-use Rattle.etx_macros.proofs.Unique.{prefix_rest, none_some}
+use Rattle.etx_macros.proofs.Depths.{depth_push, group_needs_two}
+use Rattle.etx_macros.proofs.Groups.{argument_gives}
+use Rattle.etx_macros.proofs.Unique.{prefix_rest}
 use Rattle.etx_macros.proofs.Delimiters.{plain_take, depth_before, right_closes_one, longest_none, never_inside}
 use Rattle.etx_macros.proofs.Arguments.{pars_nil, pars_push, pars_front, delimited_more, within_start}
 use Rattle.etx_macros.proofs.Steps.{argument_delimited, matched_more, text_end}
@@ -86,23 +88,6 @@ goes_group long skipped read depth s g =
       };
     }
 
--- the argument that a text gives
-some_argument : (text : List Token) → (arg : List Token) × Gives text arg
-some_argument text = elim (cases_lt (length text) 2) [
-  | inl short ↦ (text, short_gives text short)
-  | inr long ↦ elim (has_category (get_or text 0 digit) 1) as (λ b. has_category (get_or text 0 digit) 1 ≡ b → (arg : List Token) × Gives text arg) [
-    | false ↦ λ o. (text, inr (λ inner g. false≢true (sym o ∙ group_opens text inner digit g), refl))
-    | true ↦ λ o. elim (has_category (get_or text (length text - 1) digit) 2) as (λ b. has_category (get_or text (length text - 1) digit) 2 ≡ b → (arg : List Token) × Gives text arg) [
-      | false ↦ λ c. (text, inr (λ inner g. false≢true (sym c ∙ group_closes text inner digit g), refl))
-      | true ↦ λ c. elim (depth_of (inner_of text)) as (λ n. depth_of (inner_of text) ≡ n → (arg : List Token) × Gives text arg) [
-        | None ↦ λ n. (text, inr (λ inner g. none_some (depth_of (inner_of text)) 0 n (group_inside text inner g), refl))
-        | Some zero ↦ λ n. (inner_of text, inl (group_from text digit long o c n))
-        | Some (suc k) ↦ λ n. (text, inr (λ inner g. let e : Some (suc k) ≡ Some 0 = sym n ∙ group_inside text inner g in absurd cc, refl))
-      ] refl
-    ] refl
-  ] refl
-]
-
 -- the rest of the delimiter, where no brace is open
 module _ (long : Bool) (d read : List Token) (matched : ℕ) (flat : IsDelimiter d) (g : InDelimited long d read 0 matched) (raw : List Token) (ends : read ≡ raw ++ take matched d) where
   whole_text : read ++ drop matched d ≡ raw ++ d
@@ -140,12 +125,11 @@ goes_flat : (long : Bool) (d read : List Token) (matched : ℕ) → IsDelimiter 
 goes_flat long d read matched flat some g =
     let p = g.place refl in
     let w = p.ends in
-    let a = some_argument w.0 in
     record {
       more = drop matched d;
       some = omega (arith, length-drop matched d, g.wants);
-      arg = a.0;
-      argument = argument_delimited long d (read ++ drop matched d) a.0 some (flat_argument long d read matched flat g w.0 w.1 a.0 a.1);
+      arg = argument_of w.0;
+      argument = argument_delimited long d (read ++ drop matched d) (argument_of w.0) some (flat_argument long d read matched flat g w.0 w.1 (argument_of w.0) (argument_gives w.0));
     }
 
 goes_delimited : (long : Bool) (d read : List Token) (depth matched : ℕ) → IsDelimiter d → (d ≡ [] → ⊥) → InDelimited long d read depth matched → Goes long d read
@@ -233,18 +217,17 @@ begins_in_text parts long args part read depth call flat l h =
     }
 
 -- what was fed where more tokens are wanted is the beginning of a call
-pub begins : (m : Matcher) (call : List Token) → IsAfter m call → Begins m.long m.parts call
-begins m call h = elim h.1 [
-  | inl x ↦ begins_in_text m.parts m.long m.args m.part m.read m.depth call m.flat (omega (arith, h.0.in_parts)) x
-  | inr x ↦ begins_in_argument m.parts m.long m.args m.part m.read m.depth m.matched call m.flat h.0.in_parts x
+pub begins : (m : MatcherState) (call : List Token) → All IsDelimiter m.parts → IsAfter m call → Begins m.long m.parts call
+begins m call flat h = elim h.1 [
+  | inl x ↦ begins_in_text m.parts m.long m.args m.part m.read m.depth call flat (omega (arith, h.0.in_parts)) x
+  | inr x ↦ begins_in_argument m.parts m.long m.args m.part m.read m.depth m.matched call flat h.0.in_parts x
 ]
 
-pub means : (fed : Fed) (m : Matcher) (call : List Token) → Comes fed m call → Means fed m call
-means More m call h = (begins m call h, h)
-means Done m call h = ((m.args, h.1), h)
-means (Fault f) m call h = (h, tt)
-means OutOfMemory m call h = (tt, tt)
+pub means : (fed : Fed) (m : MatcherState) (call : List Token) → All IsDelimiter m.parts → Comes fed m call → Means fed m call
+means More m call flat h = (begins m call flat h, h)
+means Done m call flat h = ((m.args, h.1), h)
+means (Fault f) m call flat h = (h, tt)
 
-pub starts : (m : Matcher) → IsAfter m [] ⊎ IsWhole m [] → Means More m [] ⊎ Means Done m []
-starts m (inl h) = inl (means More m [] h)
-starts m (inr h) = inr (means Done m [] h)
+pub starts : (m : MatcherState) → All IsDelimiter m.parts → IsAfter m [] ⊎ IsWhole m [] → Means More m [] ⊎ Means Done m []
+starts m flat (inl h) = inl (means More m [] flat h)
+starts m flat (inr h) = inr (means Done m [] flat h)

@@ -3,9 +3,13 @@ pub mod Arguments
 pub mod Completions
 pub mod Delimiters
 pub mod Depths
+pub mod Feeding
 pub mod Found
+pub mod Groups
 pub mod Refusals
+pub mod Runs
 pub mod Steps
+pub mod Tests
 pub mod Texts
 pub mod Turns
 pub mod Unique

@@ -9,12 +9,13 @@ use Rattle.etx_matter.specs.declared.token.Token.{Token}
 use Rattle.etx_macros.specs.declared.argument.Turn.TheVariants as turn
 use Rattle.etx_macros.specs.declared.fault.Fed.{Fed}
 use Rattle.etx_macros.specs.declared.fault.Fed.TheVariants.{More, Done}
-use Rattle.etx_macros.specs.declared.matcher.Matcher.{Matcher}
+use Rattle.etx_macros.specs.State.{MatcherState}
+use Rattle.etx_macros.specs.Feeding.{first_part, started}
 use Rattle.etx_macros.specs.Marks.{is_par, behind, IsBalanced}
 use Rattle.etx_macros.specs.Calls.{Gives, EndsInside, IsDelimited, IsArgument, MatchesCall, text_before, with_argument}
 use Rattle.etx_macros.specs.Matching.{said_at, IsLongest, undelimited_turn}
 use Rattle.etx_macros.specs.Within.{InDelimited, Within}
-use Rattle.etx_macros.specs.Progress.{InText, InArgument, IsAfter, IsWhole, Comes, EndsArgument, IsStart}
+use Rattle.etx_macros.specs.Progress.{InText, InArgument, IsAfter, IsWhole, Comes}
 use Rattle.etx_macros.proofs.Delimiters.{IsFound}
 use Rattle.etx_macros.proofs.Arguments.{spaces_push, bare_skip, bare_keep, bare_found, delimited_found, delimited_more, within_start}
 
@@ -37,7 +38,7 @@ argument_over parts long args part read depth matched call t arg h l a =
     (matched_more parts long args part h.before (h.skipped ++ (read ++ t ∷ [])) arg h.matched l a)
 
 -- where a part is over, the call is complete, or an argument begins
-pub after_part : (m : Matcher) (call : List Token) → m.failed ≡ false → 0 < m.part → m.part ≤ length m.parts → MatchesCall m.long (take m.part m.parts) call m.args → m.read ≡ [] → m.depth ≡ 0 → m.matched ≡ 0 → Comes (said_at m.part (length m.parts)) m call
+pub after_part : (m : MatcherState) (call : List Token) → m.failed ≡ false → 0 < m.part → m.part ≤ length m.parts → MatchesCall m.long (take m.part m.parts) call m.args → m.read ≡ [] → m.depth ≡ 0 → m.matched ≡ 0 → Comes (said_at m.part (length m.parts)) m call
 after_part m call f p l c r d k =
     elim (eqb m.part (length m.parts)) as (λ b. eqb m.part (length m.parts) ≡ b → Comes (cond b Done More) m call) [
       | true ↦ λ e.
@@ -147,26 +148,11 @@ pub in_text : (parts : List (List Token)) (long : Bool) (args : List (List Token
 in_text parts long args part read depth matched call l (inl x) = x
 in_text parts long args part read depth matched call l (inr x) = absurd (omega (arith, x.past_text))
 
--- what holds of the calls that end an argument
-pub end_means : (mid new : Matcher) (k : ℕ) (fed : Fed) (call : List Token) (x : EndsArgument mid new k fed) → mid.part < length mid.parts → mid.failed ≡ false → ((arg : List Token) → Gives x.raw arg → MatchesCall mid.long (take (mid.part + 1) mid.parts) call (mid.args ++ arg ∷ [])) → Comes fed new call
-end_means mid new k fed call x l f c =
-    let m0 = c x.arg x.gives in
-    let m1 = subst (λ (n : ℕ). MatchesCall mid.long (take n mid.parts) call (mid.args ++ x.arg ∷ [])) (sym x.part_is) m0 in
-    let m2 = subst (λ (ps : List (List Token)). MatchesCall mid.long (take new.part ps) call (mid.args ++ x.arg ∷ [])) (sym x.parts_is) m1 in
-    let m3 = subst (λ (b : Bool). MatchesCall b (take new.part new.parts) call (mid.args ++ x.arg ∷ [])) (sym x.long_is) m2 in
-    let m4 = subst (λ (zs : List (List Token)). MatchesCall new.long (take new.part new.parts) call zs) (sym x.args_is) m3 in
-    let e : fed ≡ said_at new.part (length new.parts) = x.fed_is ∙ ap (λ n. said_at n (length mid.parts)) (sym x.part_is) ∙ ap (λ ps. said_at new.part (length ps)) (sym x.parts_is) in
-    subst (λ (g : Fed). Comes g new call) (sym e)
-    (after_part new call (x.failed_is ∙ f) (omega (arith, x.part_is)) (omega (arith, x.part_is, ap length x.parts_is)) m4 x.read_is x.depth_is x.matched_is)
-
 -- two cuts of a text at the same place
 pub same_cut : (raw cut raw' cut' : List Token) → raw ++ cut ≡ raw' ++ cut' → length cut ≡ length cut' → raw ≡ raw'
 same_cut raw cut raw' cut' e l =
     let n : length raw ≡ length raw' = omega (arith, ap length e, length-append raw cut, length-append raw' cut') in
     sym (take_at raw cut (length raw) refl) ∙ ap (λ xs. take (length raw) xs) e ∙ take_at raw' cut' (length raw) (sym n)
-
-pub no_cut : (text raw cut : List Token) → text ≡ raw ++ cut → length cut ≡ 0 → raw ≡ text
-no_cut text raw cut e l = sym (append-nil raw) ∙ ap (λ xs. raw ++ xs) (sym (nil_from_length cut l)) ∙ sym e
 
 pub if_ok_each : (r : Result Fed AllocError) (P Q : Fed → Type 0) → ((x : Fed) → P x → Q x) → IfOk r P → IfOk r Q
 if_ok_each (Ok x) P Q h p = h x p
@@ -222,36 +208,35 @@ not_next text read t missing rest e =
     missing (slice_get-get_or text (length read) t l ∙ ap (λ x. let o : Option Token = Some x in o) g)
 
 -- a matcher that nothing was fed to
-starts_by : (part count : ℕ) (m : Matcher) (call : List Token) → Comes (said_at part count) m call → IsAfter m call ⊎ IsWhole m call
+starts_by : (part count : ℕ) (m : MatcherState) (call : List Token) → Comes (said_at part count) m call → IsAfter m call ⊎ IsWhole m call
 starts_by part count m call = elim (eqb part count) as (λ b. Comes (cond b Done More) m call → IsAfter m call ⊎ IsWhole m call) [ true ↦ λ h. inr h | false ↦ λ h. inl h ]
-
-pub starts_past_text : (m : Matcher) (parts : List (List Token)) (long : Bool) → IsStart m parts long 1 → 0 < length parts → get_or parts 0 [] ≡ [] → IsAfter m [] ⊎ IsWhole m []
-starts_past_text m parts long s l e =
-    let m0 : MatchesCall long (take 1 parts) [] [] = subst (λ (c : List Token). MatchesCall long (take 1 parts) c []) e (text_end parts long l) in
-    let m1 = subst (λ (n : ℕ). MatchesCall long (take n parts) [] []) (sym s.part_is) m0 in
-    let m2 = subst (λ (ps : List (List Token)). MatchesCall long (take m.part ps) [] []) (sym s.parts_is) m1 in
-    let m3 = subst (λ (b : Bool). MatchesCall b (take m.part m.parts) [] []) (sym s.long_is) m2 in
-    let m4 = subst (λ (zs : List (List Token)). MatchesCall m.long (take m.part m.parts) [] zs) (sym s.args_is) m3 in
-    starts_by m.part (length m.parts) m [] (after_part m [] s.failed_is (omega (arith, s.part_is)) (omega (arith, s.part_is, ap length s.parts_is)) m4 s.read_is s.depth_is s.matched_is)
 
 pub some_length : (xs : List Token) → (xs ≡ [] → ⊥) → 0 < length xs
 some_length [] some = absurd (some refl)
 some_length (x ∷ xs) some = omega arith
 
-pub starts_in_text : (m : Matcher) (parts : List (List Token)) (long : Bool) → IsStart m parts long 0 → 0 < length parts → (get_or parts 0 [] ≡ [] → ⊥) → IsAfter m [] ⊎ IsWhole m []
-starts_in_text m parts long s l some =
+-- begun with a part
+abbrev begun : List (List Token) → Bool → ℕ → MatcherState
+begun parts long part = record { parts = parts; long = long; args = []; part = part; read = []; depth = 0; matched = 0; failed = false }
+
+begun_at : (parts : List (List Token)) (long : Bool) (text : List Token) → 0 < length parts → get_or parts 0 [] ≡ text → IsAfter (begun parts long (first_part text)) [] ⊎ IsWhole (begun parts long (first_part text)) []
+begun_at parts long [] l e =
+    let m0 : MatchesCall long (take 1 parts) [] [] = subst (λ (c : List Token). MatchesCall long (take 1 parts) c []) e (text_end parts long l) in
+    starts_by 1 (length parts) (begun parts long 1) [] (after_part (begun parts long 1) [] refl (omega arith) (omega (arith, l)) m0 refl refl refl)
+begun_at parts long (t ∷ ts) l e =
     inl (
-      record { in_parts = omega (arith, s.part_is, ap length s.parts_is); not_failed = s.failed_is },
+      record { in_parts = l; not_failed = refl },
       inl (record {
-        first = s.part_is;
-        no_args = s.args_is;
-        flat = s.depth_is;
-        same = sym s.read_is;
-        rest = get_or m.parts 0 [];
-        begins = ap (λ xs. xs ++ get_or m.parts 0 []) (sym s.read_is);
-        wants = subst (λ (ps : List (List Token)). 0 < length (get_or ps 0 [])) (sym s.parts_is) (some_length (get_or parts 0 []) some);
+        first = refl;
+        no_args = refl;
+        flat = refl;
+        same = refl;
+        rest = get_or parts 0 [];
+        begins = refl;
+        wants = subst (λ (xs : List Token). 0 < length xs) (sym e) (omega arith);
       }),
     )
 
-pub means_by : (f g : Fed) (m : Matcher) (call : List Token) → f ≡ g → Comes g m call → Comes f m call
-means_by f g m call e h = subst (λ (x : Fed). Comes x m call) (sym e) h
+pub starts_fresh : (parts : List (List Token)) (long : Bool) → 0 < length parts → IsAfter (started parts long) [] ⊎ IsWhole (started parts long) []
+unfolding started
+starts_fresh parts long l = begun_at parts long (get_or parts 0 []) l refl

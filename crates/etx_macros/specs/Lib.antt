@@ -1,7 +1,11 @@
 pub mod Calls
+pub mod Feeding
 pub mod Marks
 pub mod Matching
 pub mod ParameterText
 pub mod Progress
 pub mod Says
+pub mod Seen
+pub mod State
+pub mod Substituting
 pub mod Within

@@ -1,5 +1,5 @@
 -- What a token is to a macro call, and how deep in braces a text is.
-use Rattle.std.specs.Prelude.{ℕ, zero, suc, Bool, false, ◌&&◌, All, length, take, ◌-◌, List, [], ◌∷◌, Option, Some, None, ◌==◌, ◌≡◌, ◌++◌, if◌then◌else◌}
+use Rattle.std.specs.Prelude.{ℕ, zero, suc, Bool, true, false, drop, ◌&&◌, All, length, take, ◌-◌, List, [], ◌∷◌, Option, Some, None, ◌==◌, ◌≡◌, ◌<◌, ◌++◌, if◌then◌else◌}
 use Rattle.etx_matter.specs.declared.token.Token.{Token}
 use Rattle.etx_matter.specs.declared.token.Token.TheVariants.{Char, Name, Param}
 
@@ -30,6 +30,10 @@ IsUnbraced t = (has_category t 1 ≡ false) × (has_category t 2 ≡ false)
 abbrev pub IsDelimiter : List Token → Type 0
 IsDelimiter text = All (λ t. has_category t 2 ≡ false) text × All (λ t. has_category t 1 ≡ false) (take (length text - 1) text)
 
+-- what a parameter text gives: one part at least, and each may delimit
+abbrev pub IsPattern : List (List Token) → Type 0
+IsPattern parts = (0 < length parts) × All IsDelimiter parts
+
 -- one brace fewer is open: none where none was open
 abbrev pub closed : ℕ → Option ℕ
 closed zero = None
@@ -55,3 +59,25 @@ IsBalanced ts = depth_of ts ≡ Some 0
 -- the text ends with these tokens
 abbrev pub EndsWith : List Token → List Token → Type 0
 EndsWith text end = (front : List Token) × (text ≡ front ++ end)
+
+-- the tokens are equal
+abbrev pub same_token : Token → Token → Bool
+same_token (Char code cat) (Char other kind) = (code == other) && (cat == kind)
+same_token (Char code cat) (Name name) = false
+same_token (Char code cat) (Param k) = false
+same_token (Name name) (Char code cat) = false
+same_token (Name name) (Name other) = name.0 == other.0
+same_token (Name name) (Param k) = false
+same_token (Param k) (Char code cat) = false
+same_token (Param k) (Name name) = false
+same_token (Param k) (Param other) = k == other
+
+abbrev pub same_tokens : List Token → List Token → Bool
+same_tokens [] [] = true
+same_tokens [] (u ∷ us) = false
+same_tokens (t ∷ ts) [] = false
+same_tokens (t ∷ ts) (u ∷ us) = same_token t u && same_tokens ts us
+
+-- the text ends with these tokens, as a test
+abbrev pub ends_with : List Token → List Token → Bool
+ends_with text end = same_tokens (drop (length text - length end) text) end

@@ -2,11 +2,10 @@
 use Rattle.std.specs.Prelude.{ℕ, ◌+◌, ◌<◌, Bool, true, false, List, [], ◌∷◌, ◌++◌, ◌≡◌, ◌⊎◌, length, take, slice_index_or}
 use Rattle.etx_matter.specs.declared.token.Token.{Token}
 use Rattle.etx_macros.specs.declared.fault.Fed.{Fed}
-use Rattle.etx_macros.specs.declared.fault.Fed.TheVariants.{More, Done, Fault, OutOfMemory}
-use Rattle.etx_macros.specs.declared.matcher.Matcher.{Matcher}
-use Rattle.etx_macros.specs.Calls.{Gives, MatchesCall, NoCall}
+use Rattle.etx_macros.specs.declared.fault.Fed.TheVariants.{More, Done, Fault}
+use Rattle.etx_macros.specs.State.{MatcherState}
+use Rattle.etx_macros.specs.Calls.{MatchesCall, NoCall}
 use Rattle.etx_macros.specs.Says.{Why, Says}
-use Rattle.etx_macros.specs.Matching.{said_at}
 use Rattle.etx_macros.specs.Within.{Within}
 
 -- in the text before the first parameter
@@ -29,85 +28,46 @@ pub record InArgument (parts : List (List Token)) (long : Bool) (args : List (Li
   pub within : Within long (slice_index_or parts part []) skipped read depth found
 
 -- more tokens are wanted
-pub record IsGoing (m : Matcher) : Type 0 where
+pub record IsGoing (m : MatcherState) : Type 0 where
   pub in_parts : m.part < length m.parts
   pub not_failed : m.failed ≡ false
 
 -- the call is complete
-pub record IsDone (m : Matcher) : Type 0 where
+pub record IsDone (m : MatcherState) : Type 0 where
   pub at_end : m.part ≡ length m.parts
   pub not_failed : m.failed ≡ false
 
 -- these tokens were fed so far, and more are wanted
-abbrev pub IsAfter : Matcher → List Token → Type 0
+abbrev pub IsAfter : MatcherState → List Token → Type 0
 IsAfter m call = IsGoing m × (InText m.parts m.args m.part m.read m.depth call ⊎ InArgument m.parts m.long m.args m.part m.read m.depth m.matched call)
 
 -- the tokens are a call with these arguments
-abbrev pub IsWhole : Matcher → List Token → Type 0
+abbrev pub IsWhole : MatcherState → List Token → Type 0
 IsWhole m call = IsDone m × MatchesCall m.long m.parts call m.args
 
 -- what stands behind a token that was taken
-abbrev pub Comes : Fed → Matcher → List Token → Type 0
+abbrev pub Comes : Fed → MatcherState → List Token → Type 0
 Comes More m call = IsAfter m call
 Comes Done m call = IsWhole m call
 Comes (Fault fault) m call = NoCall m.long m.parts call × Why fault m.long m.parts call
-Comes OutOfMemory m call = Unit {0}
 
 -- what a matcher is when these tokens were fed
-abbrev pub Is : Fed → Matcher → List Token → Type 0
+abbrev pub Is : Fed → MatcherState → List Token → Type 0
 Is More m call = IsAfter m call
 Is Done m call = IsWhole m call
 Is (Fault fault) m call = Unit {0}
-Is OutOfMemory m call = Unit {0}
 
 -- what a matcher says of the tokens that were fed is true, and it is ready for the next one, or has the arguments
-abbrev pub Means : Fed → Matcher → List Token → Type 0
+abbrev pub Means : Fed → MatcherState → List Token → Type 0
 Means fed m call = Says fed m.long m.parts call × Is fed m call
 
--- an argument is over, of which the last so many tokens were its delimiter
-pub record EndsArgument (m m' : Matcher) (delimiter : ℕ) (fed : Fed) : Type 0 where
-  pub parts_is : m'.parts ≡ m.parts
-  pub long_is : m'.long ≡ m.long
-  pub failed_is : m'.failed ≡ m.failed
-  pub arg : List Token
-  pub raw : List Token
-  pub cut : List Token
-  pub read_was : m.read ≡ raw ++ cut
-  pub cut_length : length cut ≡ delimiter
-  pub gives : Gives raw arg
-  pub args_is : m'.args ≡ m.args ++ arg ∷ []
-  pub part_is : m'.part ≡ m.part + 1
-  pub read_is : m'.read ≡ []
-  pub depth_is : m'.depth ≡ 0
-  pub matched_is : m'.matched ≡ 0
-  pub fed_is : fed ≡ said_at (m.part + 1) (length m.parts)
-
--- whether a matcher goes on, as it says
-abbrev pub GoesOn : Fed → Matcher → Type 0
-GoesOn More m = IsGoing m
-GoesOn Done m = IsDone m
-GoesOn (Fault fault) m = Unit {0}
-GoesOn OutOfMemory m = Unit {0}
-
 -- what a matcher is after what it says
-abbrev pub Stands : Fed → Matcher → Type 0
+abbrev pub Stands : Fed → MatcherState → Type 0
 Stands More m = IsGoing m
 Stands Done m = IsDone m
 Stands (Fault fault) m = m.failed ≡ true
-Stands OutOfMemory m = m.failed ≡ true
 
 -- nothing but these is changed
-pub record KeepsPattern (m m' : Matcher) : Type 0 where
+pub record KeepsPattern (m m' : MatcherState) : Type 0 where
   pub parts_is : m'.parts ≡ m.parts
   pub long_is : m'.long ≡ m.long
-
--- a matcher that begins with a part
-pub record IsStart (m : Matcher) (parts : List (List Token)) (long : Bool) (part : ℕ) : Type 0 where
-  pub parts_is : m.parts ≡ parts
-  pub long_is : m.long ≡ long
-  pub args_is : m.args ≡ []
-  pub part_is : m.part ≡ part
-  pub read_is : m.read ≡ []
-  pub depth_is : m.depth ≡ 0
-  pub matched_is : m.matched ≡ 0
-  pub failed_is : m.failed ≡ false

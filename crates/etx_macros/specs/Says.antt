@@ -4,7 +4,7 @@ use Rattle.etx_matter.specs.declared.token.Token.{Token}
 use Rattle.etx_macros.specs.declared.fault.MatchFault.{MatchFault}
 use Rattle.etx_macros.specs.declared.fault.MatchFault.TheVariants.{DoesNotMatch, ParagraphEnded, ExtraBrace}
 use Rattle.etx_macros.specs.declared.fault.Fed.{Fed}
-use Rattle.etx_macros.specs.declared.fault.Fed.TheVariants.{More, Done, Fault, OutOfMemory}
+use Rattle.etx_macros.specs.declared.fault.Fed.TheVariants.{More, Done, Fault}
 use Rattle.etx_macros.specs.Marks.{has_category, is_par}
 use Rattle.etx_macros.specs.Calls.{MatchesCall, Begins, NoCall, IsPastText}
 
@@ -24,11 +24,3 @@ abbrev pub Says : Fed → Bool → List (List Token) → List Token → Type 0
 Says More long parts tokens = Begins long parts tokens
 Says Done long parts tokens = (args : List (List Token)) × MatchesCall long parts tokens args
 Says (Fault fault) long parts tokens = NoCall long parts tokens × Why fault long parts tokens
-Says OutOfMemory long parts tokens = Unit {0}
-
--- it wasn't want of memory
-abbrev pub IsAnswer : Fed → Type 0
-IsAnswer More = Unit {0}
-IsAnswer Done = Unit {0}
-IsAnswer (Fault fault) = Unit {0}
-IsAnswer OutOfMemory = ⊥

@@ -1,8 +1,9 @@
 // The text of an argument.
-ghost use Rattle.std.specs.Prelude.{◌≡◌, ◌<◌, ◌≤◌, ◌↔◌, ◌⊎◌, IsTrue, IfOk, MatchBool, List, length, slice_get, Some};
+ghost use Rattle.std.specs.Prelude.{◌≡◌, ◌<◌, ◌≤◌, ◌⊎◌, IfOk, MatchBool, List, length};
 ghost use Rattle.etx_matter.specs.declared.token.Token.{Token};
-ghost use Rattle.etx_macros.specs.Calls.{Gives, IsGroup, inner_of};
-ghost use Rattle.etx_macros.specs.Matching.{IsLongest, undelimited_turn, delimited_turn, said_at};
+ghost use Rattle.etx_macros.specs.Calls.{IsGroup, inner_of};
+ghost use Rattle.etx_macros.specs.Feeding.{argument_of, longest, has_at};
+ghost use Rattle.etx_macros.specs.Matching.{undelimited_turn, delimited_turn, said_at};
 
 use crate::fault::{Fed, MatchFault};
 use crate::mark::{behind, ends_with, has_category, is_balanced, is_par, is_same, is_space};
@@ -25,7 +26,7 @@ pub enum Turn {
 /// How many tokens of the delimiter end a text, if no more than `most` of them do.
 pub fn longest_end(text: &[Token], delimiter: &[Token], most: usize) -> usize
     requires { most ≤ length delimiter.now }
-    ensures longest { IsLongest text.now delimiter.now most result }
+    ensures longest { result ≡ longest text.now delimiter.now most }
     ensures short { result ≤ length text.now }
 {
     let mut count = most;
@@ -58,7 +59,7 @@ fn is_group(text: &[Token]) -> bool
 /// The argument that a text gives: without the braces, where one pair encloses it all.
 pub fn unwrapped(alloc: Global, text: &[Token]) -> Result<Tokens, AllocError>
     requires { length text.now ≤ 1073741824 }
-    ensures { IfOk result (Gives text.now) }
+    ensures { IfOk result (λ arg. arg ≡ argument_of text.now) }
 {
     if is_group(text) {
         return Tokens::from_slice(alloc, &text[1..text.len() - 1]);
@@ -108,7 +109,7 @@ pub fn delimited_turn(
 
 /// Whether a text has this token at `at`.
 pub fn has_at(text: &[Token], at: usize, token: Token) -> bool
-    ensures { IsTrue result ↔ (slice_get text.now at ≡ Some token) }
+    ensures { result ≡ has_at text.now at token }
 {
     match text.get(at) {
         Some(wanted) => is_same(*wanted, token),

@@ -21,6 +21,4 @@ pub enum Fed {
     Done,
     /// No call begins with them. The matcher has failed.
     Fault(MatchFault),
-    /// There was no memory for the token. The matcher has failed.
-    OutOfMemory,
 }

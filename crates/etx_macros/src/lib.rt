@@ -11,10 +11,16 @@ mod law;
 mod mark;
 mod matcher;
 mod pattern;
+mod progress;
+mod substitution;
 #[cfg(test)]
 mod tests;
 
 pub use fault::{Fed, MatchFault};
-pub use law::{each_text_begins_with_one_call, one_thing_is_said_of_any_tokens};
+pub use law::{
+    a_match_says_of_each_token_what_is_true, an_extra_brace_is_known_before_it_is_fed,
+    each_text_begins_with_one_call, one_thing_is_said_of_any_tokens,
+};
 pub use matcher::Matcher;
 pub use pattern::{Pattern, PatternFault};
+pub use substitution::substitute;

@@ -1,6 +1,6 @@
 // What a token is to a macro call.
 ghost use Rattle.std.specs.Prelude.{◌≡◌, ◌<◌, ◌≤◌, ◌^◌, ◌↔◌, IsTrue, length};
-ghost use Rattle.etx_macros.specs.Marks.{has_category, is_space, is_par, behind, IsBalanced, EndsWith};
+ghost use Rattle.etx_macros.specs.Marks.{has_category, is_space, is_par, behind, IsBalanced, same_token, ends_with};
 
 use etx_matter::{PAR, Token};
 
@@ -36,7 +36,7 @@ pub fn is_par(token: Token) -> bool
 
 /// Whether two tokens are equal.
 pub fn is_same(token: Token, other: Token) -> bool
-    ensures { IsTrue result ↔ (token ≡ other) }
+    ensures { result ≡ same_token token other }
 {
     token == other
 }
@@ -73,7 +73,7 @@ pub fn is_balanced(text: &[Token]) -> bool
 
 /// Whether `text` ends with `end`.
 pub fn ends_with(text: &[Token], end: &[Token]) -> bool
-    ensures { IsTrue result ↔ EndsWith text.now end.now }
+    ensures { result ≡ ends_with text.now end.now }
 {
     text.ends_with(end)
 }

@@ -8,17 +8,37 @@ use crate::mark::has_category;
 use etx_lists::Listed;
 use etx_matter::{Token, Tokens};
 use std::alloc::{AllocError, Global};
+use std::marker::Model;
+use std::sync::Arc;
 
 /// The most parameters of a macro.
 const MOST_PARAMETERS: usize = 9;
 
-/// A parameter text, taken apart.
-#[derive(Debug, Drop)]
-pub struct Pattern {
-    /// The text before the first parameter, then for each parameter the text that delimits it, which may be empty.
-    pub parts: Listed<Tokens>,
+/// The parts of a parameter text.
+#[derive(Drop)]
+struct PatternText {
+    parts: Listed<Tokens>,
     ghost has_text: { 0 < length parts },
     ghost flat: { All IsDelimiter parts },
+}
+
+/// A parameter text, taken apart. It is never changed, and its sharing copies nothing.
+///
+/// Contracts see its parts: the text before the first parameter, then for each parameter the text that delimits it,
+/// which may be empty.
+#[derive(Drop)]
+pub struct Pattern {
+    text: Arc<PatternText, Global>,
+}
+
+impl Model for Pattern {
+    ghost use Rattle.std.specs.Prelude.{List};
+    ghost use Rattle.std.specs.Arc.{arc_value};
+    ghost use Rattle.etx_matter.specs.declared.token.Token.{Token};
+
+    ghost Value = { List (List Token) };
+
+    ghost view = { λ it. (arc_value it.text).parts };
 }
 
 /// What is wrong with a parameter text.
@@ -131,13 +151,15 @@ fn next_in(tokens: &[Token], at: usize, count: usize) -> Result<Next, PatternFau
 }
 
 /// A pattern of these parts, and a last one.
-fn whole(mut parts: Listed<Tokens>, last: Tokens) -> Result<Pattern, AllocError>
+fn whole(alloc: Global, mut parts: Listed<Tokens>, last: Tokens) -> Result<Pattern, AllocError>
     requires parts { All IsDelimiter parts }
     requires last { IsDelimiter last }
-    ensures { IfOk result (λ pattern. pattern.parts ≡ parts ++ last ∷ []) }
+    ensures { IfOk result (λ pattern. pattern ≡ parts ++ last ∷ []) }
 {
     parts.push(last)?;
-    Ok(Pattern { parts })
+    Ok(Pattern {
+        text: Arc::new(alloc, PatternText { parts })?,
+    })
 }
 
 impl Pattern {
@@ -150,7 +172,7 @@ impl Pattern {
     /// The first character of category 6 that has neither behind it decides the fault: `TooManyParameters` where nine
     /// parameters went before, else `BadNumber`.
     pub fn read(alloc: Global, params: &Tokens) -> Result<Pattern, PatternFault>
-        ensures { MatchResult result (λ pattern. pattern_of params.now ≡ Ok pattern.parts) (λ fault. IsFaultOf fault params.now) }
+        ensures { MatchResult result (λ pattern. pattern_of params.now ≡ Ok pattern) (λ fault. IsFaultOf fault params.now) }
     {
         let tokens = params.as_slice();
         let mut parts = Listed::new(alloc);
@@ -162,14 +184,14 @@ impl Pattern {
                 Err(fault) => return Err(fault),
             };
             match next {
-                Next::End => return Ok(whole(parts, part)?),
+                Next::End => return Ok(whole(alloc, parts, part)?),
                 Next::Text(token) => {
                     part.push(token)?;
                     at += 1;
                 }
                 Next::Brace(brace) => {
                     part.push(brace)?;
-                    return Ok(whole(parts, part)?);
+                    return Ok(whole(alloc, parts, part)?);
                 }
                 Next::Parameter => {
                     parts.push(part)?;
@@ -180,14 +202,22 @@ impl Pattern {
         }
     }
 
-    /// An equal pattern's parts.
-    pub(crate) fn copied(&self, alloc: Global) -> Result<Listed<Tokens>, AllocError>
-        ensures { IfOk result (λ it. it ≡ self.now.parts) }
+    /// The same pattern, once more. The only want is of room in the count of those that share it.
+    pub fn share(&self) -> Result<Pattern, AllocError>
+        ensures { IfOk result (λ it. it ≡ self.now) }
     {
-        let mut copy = Listed::new(alloc);
-        for part in self.parts.as_slice() {
-            copy.push(part.copy()?)?;
-        }
-        Ok(copy)
+        Ok(Pattern {
+            text: Arc::try_clone(&self.text)?,
+        })
+    }
+
+    /// The text before the first parameter, then for each parameter the text that delimits it. There is one at least. No
+    /// token of them is a right brace, and none but the last one of a part a left brace.
+    pub fn parts(&self) -> &[Tokens]
+        ensures same { result.now ≡ self.now }
+        ensures some { 0 < length self.now }
+        ensures flat { All IsDelimiter self.now }
+    {
+        self.text.parts.as_slice()
     }
 }

@@ -1,5 +1,6 @@
 // Calls against what TeX makes of them.
-use crate::{Fed, MatchFault, Matcher, Pattern, PatternFault};
+use crate::{Fed, MatchFault, Matcher, Pattern, PatternFault, substitute};
+use etx_lists::Listed;
 use etx_matter::{NameId, PAR, Token, Tokens};
 use std::alloc::{AllocError, Global};
 use std::test::Fail;
@@ -413,7 +414,7 @@ fn fed(
         if !matcher.is_going() {
             return Ok(None);
         }
-        last = matcher.feed(token_of(*byte));
+        last = matcher.feed(token_of(*byte))?;
     }
     Ok(Some((last, matcher)))
 }
@@ -475,5 +476,64 @@ fn parameters_are_numbered_in_order(rt: HostRuntime) -> Result<(), Fail> {
     for wrong in TOO_MANY {
         assert!(rt; is_refused(rt.alloc(), wrong, PatternFault::TooManyParameters)?);
     }
+    Ok(())
+}
+
+/// What is said of `}` where an argument was begun with this text, and whether it was known before.
+fn said_of_brace(alloc: Global, text: &[u8]) -> Result<Option<(bool, Fed)>, Fail> {
+    let pattern = Pattern::read(alloc, &tokens(alloc, b"#1.")?)?;
+    let Some((_, mut matcher)) = fed(alloc, &pattern, true, text)? else {
+        return Ok(None);
+    };
+    let brace = token_of(b'}');
+    let is_extra = matcher.is_extra(brace);
+    Ok(Some((is_extra, matcher.feed(brace)?)))
+}
+
+/// What is said of `\par` in an argument of a long macro, once the match goes on as for a short one.
+fn said_of_paragraph(alloc: Global) -> Result<Option<Fed>, Fail> {
+    let pattern = Pattern::read(alloc, &tokens(alloc, b"#1.")?)?;
+    let Some((_, mut matcher)) = fed(alloc, &pattern, true, b"a!")? else {
+        return Ok(None);
+    };
+    matcher.shorten();
+    Ok(Some(matcher.feed(Token::Name(PAR))?))
+}
+
+#[test]
+fn an_extra_brace_is_known_and_a_match_can_be_shortened(rt: HostRuntime) -> Result<(), Fail> {
+    let extra = Some((true, Fed::Fault(MatchFault::ExtraBrace)));
+    assert!(rt; said_of_brace(rt.alloc(), b"a")? == extra);
+    assert!(rt; said_of_brace(rt.alloc(), b"a{b")? == Some((false, Fed::More)));
+    assert!(rt; said_of_paragraph(rt.alloc())? == Some(Fed::Fault(MatchFault::ParagraphEnded)));
+    Ok(())
+}
+
+/// A body, in which a digit stands for a parameter.
+fn body(alloc: Global, text: &[u8]) -> Result<Tokens, AllocError> {
+    let mut body = Tokens::new(alloc);
+    for byte in text {
+        match *byte {
+            b'0'..=b'9' => body.push(Token::Param(*byte - b'0'))?,
+            other => body.push(token_of(other))?,
+        }
+    }
+    Ok(body)
+}
+
+/// Whether this body with these arguments is the text that is wanted.
+fn gives(alloc: Global, text: &[u8], args: &[&[u8]], wanted: &[u8]) -> Result<bool, AllocError> {
+    let mut list = Listed::new(alloc);
+    for arg in args {
+        list.push(tokens(alloc, arg)?)?;
+    }
+    let text = substitute(alloc, body(alloc, text)?.as_slice(), list.as_slice())?;
+    Ok(text.as_slice() == tokens(alloc, wanted)?.as_slice())
+}
+
+#[test]
+fn arguments_stand_for_parameters(rt: HostRuntime) -> Result<(), Fail> {
+    assert!(rt; gives(rt.alloc(), b"a1b2?1", &[b"xy", b"{!}"], b"axyb{!}?xy")?);
+    assert!(rt; gives(rt.alloc(), b"0(1)23", &[b"", b"."], b"().")?);
     Ok(())
 }

@@ -1,25 +1,22 @@
-use Rattle.std.proofs.Common.{ℕ, ◌≡◌, inl, inr, take, sym, subst, ◌∙◌, arith}
-use Rattle.std.proofs.lemmas.Bool.{false≢true, cases_lt}
-use Rattle.std.proofs.lemmas.List.{append-nil}
-use Rattle.etx_macros.specs.Marks.{EndsWith}
+use Rattle.std.proofs.Common.{◌≡◌, ◌≤◌, sym, subst, ℕ, length, ◌∙◌, arith}
+use Rattle.etx_macros.specs.Feeding.{longest}
+use Rattle.etx_macros.proofs.Tests.{longest_found, longest_step, longest_zero, longest_short}
 use Rattle.etx_macros.proofs.argument.longest_end.Goals as goal
 
 pub loop-count-preserved : goal.loop-count-preserved
 loop-count-preserved c = (
   omega (arith, c.loop-count.invariant.0),
-  λ more l u w. elim (cases_lt c.loop-count.count more) [
-    | inl far ↦ c.loop-count.invariant.1 more far u w
-    | inr near ↦
-        let n : more ≡ c.loop-count.count = omega (arith, l, near) in
-        false≢true (sym c.if-ends_with.false ∙ c.ends_with.ensures.1 (subst (λ (k : ℕ). EndsWith c.args.text.now (take k c.args.delimiter.now)) n w))
-  ],
+  c.loop-count.invariant.1 ∙ longest_step c.args.text.now c.args.delimiter.now c.loop-count.count (omega (arith, c.loop-count-test.true)) (sym c.ends_with.ensures ∙ c.if-ends_with.false),
 )
 
-pub returns-clause-longest : goal.returns-clause-longest
-returns-clause-longest c =
-    let z : 0 ≡ c.loop-count.count = omega (arith, c.loop-count-test.false) in
+pub returns-then-ends_with : goal.returns-then-ends_with
+returns-then-ends_with c =
+    let e : longest c.args.text.now c.args.delimiter.now c.args.most ≡ c.loop-count.count =
+    c.loop-count.invariant.1 ∙ longest_found c.args.text.now c.args.delimiter.now c.loop-count.count (omega (arith, c.loop-count-test.true)) (sym c.ends_with.ensures ∙ c.if-ends_with.true) in
     record {
-      within = omega arith;
-      ends = (c.args.text.now, sym (append-nil c.args.text.now));
-      longest = λ more l u w. c.loop-count.invariant.1 more (omega (arith, l, z)) u w;
+      longest = sym e;
+      short = subst (λ (n : ℕ). n ≤ length c.args.text.now) e (longest_short c.args.text.now c.args.delimiter.now c.args.most c.requires);
     }
+
+pub returns : goal.returns
+returns c = record { longest = sym (c.loop-count.invariant.1 ∙ longest_zero c.args.text.now c.args.delimiter.now c.loop-count.count (omega (arith, c.loop-count-test.false))); short = omega arith }

@@ -6,8 +6,8 @@ use Rattle.etx_matter.specs.declared.token.Token.{Token}
 use Rattle.etx_macros.specs.Marks.{IsDelimiter}
 use Rattle.etx_macros.proofs.pattern.whole.Goals as goal
 
-pub invariant_of-result : goal.invariant_of-result
-invariant_of-result c = record {
+pub invariant_of-new : goal.invariant_of-new
+invariant_of-new c = record {
   has_text = omega (arith, ap length c.in_ok-push.ensures.ok, length_push c.args.parts c.args.last);
   flat = subst (λ (xs : List (List Token)). All IsDelimiter xs) (sym c.in_ok-push.ensures.ok) (All-push IsDelimiter c.args.parts c.args.last c.requires.parts c.requires.last);
 }

@@ -1,15 +1,23 @@
 -- What is said of the tokens is true.
-use Rattle.std.proofs.Common.{◌++◌, ◌∷◌, []}
-use Rattle.etx_macros.specs.declared.fault.Fed.TheVariants.{More, Done}
-use Rattle.etx_macros.proofs.Completions.{means}
+use Rattle.std.proofs.Common.{◌≡◌, ◌++◌, ◌∷◌, [], List}
+use Rattle.etx_matter.specs.declared.token.Token.{Token}
+use Rattle.etx_macros.specs.Feeding.{fed_of, Makes}
+use Rattle.etx_macros.specs.Seen.{state_of}
+use Rattle.etx_macros.specs.Progress.{IsAfter, Means, Stands}
+use Rattle.etx_macros.proofs.Steps.{if_ok_each}
+use Rattle.etx_macros.proofs.Feeding.{makes_means, makes_stands}
 use Rattle.etx_macros.proofs.matcher.Matcher.feed.Goals as goal
 
-pub returns-in-Ok-More-clause-means : goal.returns-in-Ok-More-clause-means
-returns-in-Ok-More-clause-means c = λ call h.
-    let after = rw c.in-Ok-More.field-0-is at c.in-Ok-More.ensures.means in
-    means More c.go.new.self (call ++ c.args.token ∷ []) (after call h)
+pub returns-clause-means : goal.returns-clause-means
+returns-clause-means c =
+    let m = state_of c.self.inside.progress in
+    let new = state_of c.feed.new.self in
+    rw (← c.self.view_is)
+    (if_ok_each c.feed.result (λ fed. Makes (fed_of m c.args.token) fed new) (λ fed. (call : List Token) → IsAfter m call → Means fed new (call ++ c.args.token ∷ []))
+    (λ fed x. λ call h. makes_means m new c.args.token fed call c.self.inside.progress.flat x c.feed.ensures.keeps.parts_is h) c.feed.ensures.makes)
 
-pub returns-in-Ok-Done-clause-means : goal.returns-in-Ok-Done-clause-means
-returns-in-Ok-Done-clause-means c = λ call h.
-    let after = rw c.in-Ok-Done.field-0-is at c.in-Ok-Done.ensures.means in
-    means Done c.go.new.self (call ++ c.args.token ∷ []) (after call h)
+pub returns-clause-stands : goal.returns-clause-stands
+returns-clause-stands c =
+    let m = state_of c.self.inside.progress in
+    let new = state_of c.feed.new.self in
+    if_ok_each c.feed.result (λ fed. Makes (fed_of m c.args.token) fed new) (λ fed. Stands fed new) (λ fed x. makes_stands m new c.args.token fed x) c.feed.ensures.makes
