@@ -30,7 +30,7 @@ pub(crate) fn mark(meaning: &Meaning) -> Option<u8>
 /// The parts of an empty parameter text.
 #[tactic(auto, unfolding(etx_macros::specs::ParameterText::parts_of))]
 fn no_pattern(s: &State) -> Result<Pattern, AllocError>
-    ensures { IfOk result (λ pattern. pattern.parts ≡ [] ∷ []) }
+    ensures { IfOk result (λ pattern. pattern ≡ [] ∷ []) }
 {
     match Pattern::read(s.alloc(), &Tokens::new(s.alloc())) {
         Ok(pattern) => Ok(pattern),
@@ -40,7 +40,7 @@ fn no_pattern(s: &State) -> Result<Pattern, AllocError>
 
 /// The parts of a parameter text, in which the scan of a parameter text leaves no fault.
 fn pattern(s: &State, params: &Tokens) -> Result<Pattern, AllocError>
-    ensures { IfOk result (λ pattern. pattern.parts ≡ parts_or_none (pattern_of params.now)) }
+    ensures { IfOk result (λ pattern. pattern ≡ parts_or_none (pattern_of params.now)) }
 {
     match Pattern::read(s.alloc(), params) {
         Ok(pattern) => Ok(pattern),

@@ -77,9 +77,9 @@ fn failure_under(alloc: Global, text: &[u8], upper: Token) -> Result<Move, Alloc
 
 /// Whether a call is the macro's name alone.
 fn is_plain(pattern: &Pattern) -> bool
-    ensures { result ≡ is_plain pattern.now.parts }
+    ensures { result ≡ is_plain pattern.now }
 {
-    match pattern.parts.as_slice() {
+    match pattern.parts() {
         [part] => part.is_empty(),
         _ => false,
     }

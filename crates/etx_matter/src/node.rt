@@ -16,8 +16,8 @@ pub type Noads = Listed<Node>;
 /// What a kern is for, which decides on breaks at it and on words that go through it.
 #[derive(Clone, Copy, Debug, PartialEq, Eq)]
 pub enum KernKind {
-    /// Of a font's program, between characters.
-    Font,
+    /// Of a font's kerning, or of the setting of a formula.
+    Normal,
     /// Of `\kern`, or of a command that puts one there on purpose.
     Explicit,
     /// Beside an accent.

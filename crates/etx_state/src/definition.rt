@@ -32,7 +32,7 @@ impl Model for Macro {
     ghost Value = { MacroState };
 
     ghost view = { λ it. let text = arc_value it.text in record {
-      parts = text.pattern.parts;
+      parts = text.pattern;
       body = text.body;
       is_long = text.is_long;
       is_outer = text.is_outer;
@@ -51,7 +51,7 @@ impl Macro {
         is_protected: bool,
     ) -> Result<Macro, AllocError>
         ensures { IfOk result (λ it. it ≡ record {
-          parts = pattern.parts;
+          parts = pattern;
           body = body;
           is_long = is_long;
           is_outer = is_outer;
@@ -83,7 +83,7 @@ impl Macro {
 
     /// Its parameter text, taken apart.
     pub fn pattern(&self) -> &Pattern
-        ensures { result.now.parts ≡ self.now.parts }
+        ensures { result.now ≡ self.now.parts }
     {
         &self.text.pattern
     }

@@ -72,7 +72,7 @@ nodes_of font (Made code letters left right) =
     roll-Node (Node-F.Lig font.number code (size_of font.info code) letters left right) ∷ []
 
 abbrev pub kern_of : FontState → ℕ → Node
-kern_of font place = roll-Node (Node-F.Kern (number_at font.info.kerns place) kern.Font)
+kern_of font place = roll-Node (Node-F.Kern (number_at font.info.kerns place) kern.Normal)
 
 -- what is written before the cursor, and the items from the cursor on
 pub record Place : Type 0 where

@@ -75,7 +75,7 @@ fn write_kern(font: &Font, place: u16, out: &mut Nodes) -> Result<(), AllocError
 {
     out.push(Node::Kern {
         width: number_at(&font.info().kerns, usize::from(place)),
-        kind: KernKind::Font,
+        kind: KernKind::Normal,
     })
 }
 
