@@ -5,6 +5,8 @@
 //! memory, and [`Store::value_at`] reads a key as it was at a mark.
 #![tactic(auto)]
 
+mod law;
 mod store;
 
+pub use law::a_mark_keeps_its_map;
 pub use store::{Mark, Store};
