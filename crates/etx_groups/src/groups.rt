@@ -1,4 +1,4 @@
-ghost use Rattle.std.specs.Prelude.{◌≡◌, ◌↔◌, Some, Err, OnOk, OnErr, IfOk};
+ghost use Rattle.std.specs.Prelude.{◌≡◌, ◌↔◌, ◌≤◌, Some, Err, OnOk, OnErr, IfOk};
 ghost use Rattle.etx_state.specs.Fits.{Fits};
 ghost use Rattle.etx_state.specs.Values.{assign, assign_global, begin, kind, noted, level};
 ghost use Rattle.etx_state.specs.States.{mouth_of, with_values, group_ended, OnlyValues, OnlyValuesAndInput, Keeps};
@@ -27,16 +27,16 @@ impl From<AllocError> for NoGroup {
 
 /// Opens a group: one more map, which has no key.
 ///
-/// `Full` comes exactly where 10000 groups are open, and the state is then what it was. After want of memory the values
-/// may have changed.
+/// `Full` comes exactly where 10000 groups are open, or more, and the state is then what it was. After want of memory the
+/// values may have changed.
 pub fn begin(s: &mut State, kind: GroupKind) -> Result<(), Capacity>
     ensures ok { OnOk result (mouth_of s.new ≡ with_values (begin (mouth_of s.old).values kind) (mouth_of s.old)) }
-    ensures full { (result ≡ Err (Capacity.Full Limit.Groups)) ↔ (level (mouth_of s.old).values ≡ 10000) }
-    ensures unchanged { level (mouth_of s.old).values ≡ 10000 → s.new ≡ s.old }
+    ensures full { (result ≡ Err (Capacity.Full Limit.Groups)) ↔ (10000 ≤ level (mouth_of s.old).values) }
+    ensures unchanged { 10000 ≤ level (mouth_of s.old).values → s.new ≡ s.old }
     ensures rest { OnlyValues (mouth_of s.old) (mouth_of s.new) }
     ensures kept { Keeps s.old s.new }
 {
-    if s.level() == MOST_GROUPS {
+    if s.level() >= MOST_GROUPS {
         return Err(Capacity::Full(Limit::Groups));
     }
     match s.push_map(kind) {
@@ -46,7 +46,8 @@ pub fn begin(s: &mut State, kind: GroupKind) -> Result<(), Capacity>
 }
 
 /// Ends the innermost group, and answers its kind: its map is gone, and the tokens that were noted in it are read next, in
-/// the order in which they were noted ("TeX: The Program", section 326). They count as fresh ones.
+/// the order in which they were noted ("TeX: The Program", section 326). They count as fresh ones. They are one more input
+/// level, for which `end` has no limit of its own; the machine ends the job where there are more than 10000.
 ///
 /// `Outermost` comes exactly where no group is open, and nothing is changed then. After want of memory the values may
 /// have changed.

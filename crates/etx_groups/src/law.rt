@@ -1,4 +1,4 @@
-//! Three small functions over the calls, which close with no proof file: what a client's proofs look like.
+//! Examples: three small functions over the calls, which close with no proof file, as a client's proofs would.
 ghost use Rattle.std.specs.Prelude.{◌≡◌, OnOk};
 ghost use Rattle.etx_state.specs.declared.key.GroupKind.TheVariants.{Simple, SemiSimple};
 ghost use Rattle.etx_state.specs.Values.{assign, assign_global, begin};
@@ -9,7 +9,7 @@ use etx_prims::IntParam;
 use etx_state::{Capacity, GroupKind, Key, State, Val};
 use std::alloc::AllocError;
 
-/// One local assignment.
+/// An example: one local assignment.
 pub fn one_assignment(s: &mut State, value: i32) -> Result<(), AllocError>
     ensures ok { OnOk result (mouth_of s.new ≡ with_values (assign (mouth_of s.old).values (Key.Int IntParam.Mag) (Val.Int value)) (mouth_of s.old)) }
     ensures kept { Keeps s.old s.new }
@@ -17,7 +17,7 @@ pub fn one_assignment(s: &mut State, value: i32) -> Result<(), AllocError>
     assign(s, Key::Int(IntParam::Mag), Val::Int(value))
 }
 
-/// A global assignment inside two groups.
+/// An example: a global assignment inside two groups.
 pub fn global_inside_two_groups(s: &mut State, value: i32) -> Result<(), Capacity>
     ensures ok { OnOk result (mouth_of s.new ≡ with_values
         (assign_global (begin (begin (mouth_of s.old).values Simple) SemiSimple) (Key.Int IntParam.Mag) (Val.Int value)) (mouth_of s.old)) }
@@ -29,8 +29,8 @@ pub fn global_inside_two_groups(s: &mut State, value: i32) -> Result<(), Capacit
     Ok(())
 }
 
-/// The end of a group brings back what was assigned locally in it, whatever the key, keeps what was assigned globally, and
-/// leaves all else as it was.
+/// An example, of two parameters: the end of a group brings back what was assigned locally in it, keeps what was assigned
+/// globally, and leaves all else as it was.
 #[tactic(auto, unfolding(etx_state::specs::Values::begin, etx_state::specs::Values::assign, etx_state::specs::Values::assign_global, etx_state::specs::Values::ended, etx_state::specs::Values::after, etx_state::specs::States::group_ended, etx_input::specs::Levels::with_list))]
 pub fn one_restored_and_one_kept(s: &mut State, value: i32) -> Result<(), Capacity>
     ensures ok { OnOk result (mouth_of s.new ≡ with_values

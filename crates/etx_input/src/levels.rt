@@ -27,6 +27,8 @@ pub enum Next {
 }
 
 /// The stack of what is read, the innermost first.
+///
+/// It has no limit of its own; the machine ends the job where there are more than 10000 levels.
 #[derive(Drop)]
 pub struct Levels {
     levels: Vec<Level>,

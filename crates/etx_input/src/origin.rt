@@ -1,9 +1,10 @@
 /// How a token came to be read.
 #[derive(Clone, Copy, Debug, PartialEq, Eq)]
 pub enum Origin {
-    /// It was read from a file or from a text that was put before it, and counts as a step.
+    /// It was read from a file, or from a text that was put before it, as a macro's body and the tokens of `\aftergroup`,
+    /// and counts as a step.
     Fresh,
-    /// It had been read already, and was put back.
+    /// It was got and handed back at once.
     Back,
     /// It was put back by `\noexpand`: this time it isn't expanded.
     Unexpanded,

@@ -11,13 +11,15 @@ use std::alloc::AllocError;
 pub enum Key {
     /// The category of a character, by its code.
     Category(u8),
-    /// The meaning of a control sequence, by the number of its name.
+    /// The meaning of a control sequence, by the number of its name. To be written only where a name has the number
+    /// (`State::name` answered it): a name that comes later means what stands here then.
     Meaning(u32),
     /// The meaning of an active character, by its code.
     Active(u8),
     /// An integer parameter.
     Int(IntParam),
-    /// The token that `\afterassignment` keeps.
+    /// The token that `\afterassignment` keeps ("TeX: The Program", section 1266). The book keeps it outside of groups, so
+    /// only `State::set` may write it: an assignment would bring it back at the end of a group.
     AfterAssignment,
 }
 

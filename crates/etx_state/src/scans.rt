@@ -7,6 +7,8 @@ use std::alloc::{AllocError, Global};
 use std::marker::Model;
 
 /// Scans in progress, and what else waits among them. Contracts see them as a list, what was pushed last first.
+///
+/// They have no limit of their own; the machine ends the job where there are more than 10000.
 #[derive(Drop)]
 pub struct Scans {
     items: Vec<Entry>,

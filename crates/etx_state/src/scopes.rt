@@ -40,9 +40,10 @@ impl Model for Scopes {
 }
 
 impl Scopes {
-    /// INITEX's values, with no group open. Takes no memory.
+    /// INITEX's values, with no group open, at place 0. Takes no memory.
     pub fn new(alloc: Global) -> Scopes
-        ensures { values_in result ≡ outermost first_of }
+        ensures values { values_in result ≡ outermost first_of }
+        ensures place { place result ≡ 0 }
     {
         Scopes {
             store: Store::new(alloc),

@@ -70,9 +70,10 @@ pub struct State {
 
 impl State {
     /// The state of INITEX at the start of a job: no group is open, `par` alone has a number, which is `PAR`, and nothing
-    /// is read yet.
+    /// is read yet. It is at place 0. Nothing of the job is used yet: every job begins with the same state.
     pub fn open(alloc: Global, _job: &Job) -> Result<State, AllocError>
-        ensures { IfOk result (λ s. mouth_of s ≡ first_mouth) }
+        ensures mouth { IfOk result (λ s. mouth_of s ≡ first_mouth) }
+        ensures place { IfOk result (λ s. place_in s ≡ 0) }
     {
         let mut names = Names::new(alloc);
         names.add(alloc, b"par")?;
@@ -264,7 +265,8 @@ impl State {
     }
 
     /// The number of a name. A name has one number for good; a new one gets the next, and, where a primitive has this name,
-    /// that meaning in the outermost map.
+    /// that meaning in the outermost map. Another new name means nothing, unless its number's key (`Key::Meaning`) was
+    /// written before: only the keys of numbers that were answered here are to be written.
     ///
     /// `Full` comes exactly where a new name would be one more than 2^20, so that its number would be 2^20. After an `Err`
     /// the state is what it was.

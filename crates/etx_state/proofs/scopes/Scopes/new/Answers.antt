@@ -4,5 +4,5 @@ use Rattle.etx_state.proofs.scopes.Scopes.new.Goals as goal
 pub invariant_of-result : goal.invariant_of-result
 invariant_of-result c = sound_new _ c.new.ensures.place c.new.ensures.empty
 
-pub returns : goal.returns
-returns c = values_new _ c.new.ensures.empty
+pub returns-clause-values : goal.returns-clause-values
+returns-clause-values c = values_new _ c.new.ensures.empty
