@@ -101,6 +101,19 @@ fn ends_give_back_in_order(rt: HostRuntime) -> Result<(), Fail> {
 }
 
 #[test]
+fn a_global_value_between_two_local_ones_stays(rt: HostRuntime) -> Result<(), Fail> {
+    let mut s = opened(rt.alloc())?;
+    assert!(rt; opens(&mut s, GroupKind::Simple) && sets(&mut s, 1, 2));
+    assert!(rt; opens(&mut s, GroupKind::SemiSimple) && sets(&mut s, 3, 4));
+    assert!(rt; sets_globally(&mut s, 9) && sets(&mut s, 5, 6));
+    assert!(rt; closes(&mut s).is_some());
+    assert_eq!(rt; values(&s), (1, 9));
+    assert!(rt; closes(&mut s).is_some());
+    assert_eq!(rt; values(&s), (10_000, 9));
+    Ok(())
+}
+
+#[test]
 fn ten_thousand_groups_and_one_more(rt: HostRuntime) -> Result<(), Fail> {
     let mut s = opened(rt.alloc())?;
     for _ in 0..10_000u32 {
