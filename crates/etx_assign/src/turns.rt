@@ -1,7 +1,8 @@
 //! The scans of assignments take the token that they wished for.
 ghost use Rattle.std.specs.Prelude.{◌≡◌, ◌∷◌, ◌+◌, ◌<◌, ◌^◌, OnOk, IfOk};
 ghost use Rattle.etx_state.specs.Values.{change, noted};
-ghost use Rattle.etx_state.specs.States.{mouth_of, with_values};
+ghost use Rattle.etx_state.specs.States.{Mouth, mouth_of, with_values};
+ghost use Rattle.etx_expand.specs.Measure.{Pays, Goes};
 ghost use Rattle.etx_expand.specs.Moves.{put_back};
 ghost use Rattle.etx_assign.specs.Rows.{row_of};
 ghost use Rattle.etx_assign.specs.Turn.{planned_turn, future_over_in, future_turn, kept_turn, entry_turn, went};
@@ -186,9 +187,22 @@ fn go_entry(
 
 /// What stands on top gets the value that it wished for: a scan takes it, and goes on or ends its assignment.
 ///
-/// After an `Err` the state is only dropped.
-#[tactic(auto, unfolding(crate::specs::Turn::went))]
+/// The turn of expansion that handed the value over has paid for it, whatever the mouth `first` was before that turn; so
+/// the two together go on: they end the job, report an error, take a step, or make the weight of the mouth smaller. After
+/// an `Err` the state is only dropped.
 pub fn go(s: &mut State, got: Value) -> Result<Turned, AllocError>
+    requires { s.old.spent + 1 < 2 ^ 64 }
+    ensures now { OnOk result (mouth_of s.new ≡ (went got (mouth_of s.old)).now) }
+    ensures turned { IfOk result (λ t. t ≡ (went got (mouth_of s.old)).turned) }
+    ensures goes { IfOk result (λ t. (first : Mouth) → Pays 64 first (mouth_of s.old) → Goes t first (mouth_of s.new)) }
+{
+    let turned = go_top(s, got)?;
+    Ok(turned)
+}
+
+/// What stands on top gets the value.
+#[tactic(auto, unfolding(crate::specs::Turn::went))]
+fn go_top(s: &mut State, got: Value) -> Result<Turned, AllocError>
     requires { s.old.spent + 1 < 2 ^ 64 }
     ensures now { OnOk result (mouth_of s.new ≡ (went got (mouth_of s.old)).now) }
     ensures turned { IfOk result (λ t. t ≡ (went got (mouth_of s.old)).turned) }

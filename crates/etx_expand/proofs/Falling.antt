@@ -150,16 +150,16 @@ got_goes m = next_goes (given m).next (given m).input m (mouth_weighs m)
 -- ---- moves
 
 -- the weight grew by this much at most, and no step was taken
-record Grows (n : ℕ) (old new : Mouth) : Type 0 where
+pub record Grows (n : ℕ) (old new : Mouth) : Type 0 where
   pub spent : new.spent ≡ old.spent
   pub weight : weight new ≤ weight old + n
 
 -- what was paid is enough for what grew
-enough : (n k : ℕ) (old m new : Mouth) → Pays (n + k) old m → Grows n m new → Pays k old new
+pub enough : (n k : ℕ) (old m new : Mouth) → Pays (n + k) old m → Grows n m new → Pays k old new
 enough n k old m new (inl more) grows = inl (omega (arith, grows.spent, more))
 enough n k old m new (inr less) grows = inr (omega (arith, grows.spent, less.0), omega (arith, grows.weight, less.1))
 
-ended_list : (m : Mouth) (ts : List Token) → Grows 0 m (read_next Fresh ts m)
+pub ended_list : (m : Mouth) (ts : List Token) → Grows 0 m (read_next Fresh ts m)
 unfolding with_list
 ended_list m [] = record { spent = refl; weight = omega arith }
 ended_list m (t ∷ ts) = record { spent = refl; weight = omega arith }
@@ -180,7 +180,7 @@ push_grows (Text ts) m = let h = ended_list m ts in record { spent = refl; weigh
 push_grows GroupEnd m = let h = group_grows m in record { spent = h.spent; weight = omega (arith, h.weight) }
 push_grows (Say text) m = record { spent = refl; weight = omega arith }
 
-back_grows : (t : Token) (m : Mouth) → Grows 64 m (put_back t m)
+pub back_grows : (t : Token) (m : Mouth) → Grows 64 m (put_back t m)
 unfolding with_list
 back_grows t m = record { spent = refl; weight = omega arith }
 
@@ -189,7 +189,7 @@ unfolding with_list
 kept_grows t m = record { spent = refl; weight = omega arith }
 
 -- a move goes where a scan and a token that waited were taken off
-moved_goes : (t : Token) (go : Move) (old m : Mouth) → Pays 66 old m → Goes (outcome go m) old (made t go m)
+pub moved_goes : (t : Token) (go : Move) (old m : Mouth) → Pays 66 old m → Goes (outcome go m) old (made t go m)
 unfolding made
 moved_goes t (move.Used p) old m paid = let h = push_grows p m in enough 65 1 old m (pushed p m) paid (record { spent = h.spent; weight = omega (arith, h.weight) })
 moved_goes t (move.Stay f p) old m paid =
@@ -263,7 +263,7 @@ begun_goes t mm old m paid = small_goes t (begun mm) old m (begun_small mm) paid
 
 -- ---- the scans
 
-abbrev GoesTo : Mouth → After → Type 0
+abbrev pub GoesTo : Mouth → After → Type 0
 GoesTo old a = Goes a.turned old a.now
 
 named_grows : (p : Option Primitive) (name : List ℕ) (m : Mouth) → Grows 0 m (named p name m)
@@ -354,7 +354,7 @@ kept_goes (keeper.Future is_global name) kept t mm old m paid =
 -- ---- the turn
 
 -- what was got, where something was taken off the stack after it
-taken : (n : ℕ) (e : Entry) (es : List Entry) (old m : Mouth) → old.scans ≡ e ∷ es → m.scans ≡ old.scans → n ≡ entry_weight e → Pays 64 old m → Pays (64 + n) old (with_scans es m)
+pub taken : (n : ℕ) (e : Entry) (es : List Entry) (old m : Mouth) → old.scans ≡ e ∷ es → m.scans ≡ old.scans → n ≡ entry_weight e → Pays 64 old m → Pays (64 + n) old (with_scans es m)
 taken n e es old m was same weighs (inl more) = inl more
 taken n e es old m was same weighs (inr fell) = inr (fell.0, omega (arith, fell.1, lighter))
   where
