@@ -8,17 +8,21 @@ use Rattle.etx_outside.specs.Outside.{Outside, after, Front}
 use Rattle.etx_outside.proofs.Outsides.{after-nil, after-append, front_none, front_longer}
 use Rattle.etx_settle.specs.Deeds.{JournalState, first_pen, entries, pen_after_all}
 use Rattle.etx_matter.specs.declared.deed.Deed.TheVariants.{Create}
+use Rattle.etx_matter.specs.declared.deed.Deed.{Deed}
 use Rattle.etx_matter.specs.declared.end.End.{End}
-use Rattle.etx_matter.specs.declared.end.End.TheVariants.{Spent}
+use Rattle.etx_matter.specs.declared.end.End.TheVariants.{Hundred, Spent}
 use Rattle.etx_job.specs.declared.mouth.Mouth.{Mouth}
 use Rattle.etx_job.specs.declared.scan.Yield.{Yield}
 use Rattle.etx_job.specs.declared.scan.Yield.TheVariants.{Quiet, Act, Load, Done}
 use Rattle.etx_job.specs.Turn.{turned, turn_of, resumed, first_mouth, line_number_of}
-use Rattle.etx_job.specs.Measure.{weight, Falls, Goes, IsNoMore}
+use Rattle.etx_job.specs.Errors.{is_error}
+use Rattle.etx_job.specs.Measure.{weight, Goes, GoesOn, IsNoMore}
 use Rattle.etx_job.specs.Words.{log_name}
-use Rattle.etx_job.specs.Chain.{Start, World, closing, ended, handled, step_open, step_from, step, turned_on, opening, chain, IsMean}
+use Rattle.etx_job.specs.Chain.{Start, World, with_deeds, closing, ended, with_error, counted, handled, step_open, step_from, step, turned_on, opening, chain, IsMean}
 use Rattle.etx_job.specs.Going.{world_of, Going, Over, Cut, Settled}
 use Rattle.etx_job.proofs.Falling.{turn_goes, resumed_no_more}
+use Rattle.etx_job.proofs.Acting.{Grows, grows_not, counted_grows}
+use Rattle.etx_job.proofs.Coming.{quiet_on, act_on, load_on}
 use Rattle.etx_job.proofs.Turns.{lt_true, lt_false}
 
 pub cut_nothing : (start : Start) (first : Outside) → Cut start first first
@@ -27,12 +31,12 @@ cut_nothing start first = record { turns = 0; front = front_none _ refl }
 pub going_starts : (start : Start) (first : Outside) {mouth : Mouth} {journal : JournalState}
     → mouth ≡ first_mouth start.job.name
     → journal ≡ record { pen = first_pen; waiting = Create (log_name start.job.name) ∷ [] }
-    → Going start first mouth journal first
+    → Going start first mouth 0 journal first
 unfolding chain opening
 going_starts start first same_mouth same_journal = record {
   turns = 0;
   done = [];
-  at = λ i. world_of (sym same_mouth i) (sym same_journal i) [] None;
+  at = λ i. world_of (sym same_mouth i) 0 (sym same_journal i) [] None;
   now_is = sym (after-nil first);
 }
 
@@ -49,18 +53,12 @@ settled {start} {first} {now} {new} {journal} {e} {erred} o wrote is = record {
       ∙ ap (λ (w : World). after w.trace first) (sym o.at);
 }
 
--- how a world's trace goes on
-pub record Grows (old new : World) : Type 0 where
-  pub more : History
-  pub is : new.trace ≡ old.trace ++ more
-
-grows_not : (w : World) → Grows w w
-grows_not w = record { more = []; is = sym (append-nil w.trace) }
-
 module _ (start : Start) where
   handled_grows : (w : World) (y : Yield) → Grows w (handled start w y)
   handled_grows w Quiet = grows_not w
-  handled_grows w (Act d) = record { more = entries w.pen (d ∷ []); is = refl }
+  handled_grows w (Act d) =
+      let grows = counted_grows (is_error d) (with_deeds (d ∷ []) w) in
+      record { more = entries w.pen (d ∷ []) ++ grows.more; is = grows.is ∙ append_assoc w.trace (entries w.pen (d ∷ [])) grows.more }
   handled_grows w (Load name) = record { more = Asked name ∷ []; is = refl }
   handled_grows w (Done e) = record { more = entries w.pen (closing e (line_number_of w.mouth)); is = refl }
 
@@ -131,38 +129,48 @@ module _ (start : Start) where
 
   -- ---- each chain ends
 
-  -- a step ends, or it is within the budget and the mouth falls
-  abbrev Going_on : Mouth → World → Type 0
-  Going_on old w = IsSome w.end ⊎ ((w.mouth.spent ≤ start.job.budget) × Falls old w.mouth)
+  -- the budget isn't passed, and errors are few
+  abbrev Within : World → Type 0
+  Within w = (w.mouth.spent ≤ start.job.budget) × (w.errors < 100)
 
-  falls_no_more : (old mid new : Mouth) → IsNoMore mid new → Falls old mid → Falls old new
-  falls_no_more old mid new same f = elim f [
-    | inl more ↦ inl (omega (arith, same.spent, more))
-    | inr less ↦ inr (omega (arith, same.spent, less.0), omega (arith, same.weight, less.1))
-  ]
+  -- a step ends the job, or goes on from a mouth and a count of errors
+  abbrev Going_on : Mouth → ℕ → World → Type 0
+  Going_on old e w = IsSome w.end ⊎ (Within w × GoesOn old e w.mouth w.errors)
 
-  handled_falls : (old : Mouth) (w : World) (y : Yield) → w.mouth.spent ≤ start.job.budget → Goes old (turned w.mouth y) → Going_on old (handled start w y)
-  handled_falls old w Quiet le goes = elim goes [ inl never ↦ absurd never | inr f ↦ inr (le, f) ]
-  handled_falls old w (Act d) le goes = elim goes [ inl never ↦ absurd never | inr f ↦ inr (le, f) ]
-  handled_falls old w (Load name) le goes =
-      let loaded = load_of (files_after w.trace start.files name) in
-      let same = resumed_no_more w.mouth loaded in
-      elim goes [ inl never ↦ absurd never | inr f ↦ inr (omega (arith, same.spent, le), falls_no_more old w.mouth (resumed w.mouth loaded) same f) ]
-  handled_falls old w (Done e) le goes = inl refl
-
-  step_falls : (w : World) → w.end ≡ None → Going_on w.mouth (step start w)
-  unfolding step
-  step_falls w none = subst (λ (o : Option End). Going_on w.mouth (step_from start w o)) (sym none) (elim (cases_lt start.job.budget (turn_of w.mouth).now.spent) [
+  -- a deed that is an error is counted
+  counted_goes : (old : Mouth) (w : World) (d : Deed) (b : Bool) → is_error d ≡ b → Within w → Goes old (turned w.mouth (Act d)) → Going_on old w.errors (counted b w)
+  counted_goes old w d false is within goes = inr (within, act_on old w.mouth w.errors w.errors d (λ was. let no : true ≡ false = sym was ∙ is in cc) (λ was. refl) goes)
+  counted_goes old w d true is within goes = elim (cases_lt (w.errors + 1) 100) [
     | inl lt ↦
         subst
-        (λ b. Going_on w.mouth (cond b (ended Spent w) (handled start (turned_on w) (turn_of w.mouth).did)))
+        (λ b. Going_on old w.errors (cond b (with_error w) (ended Hundred (with_error w))))
+        (sym (lt_true (w.errors + 1) 100 lt))
+        (inr ((within.0, lt), act_on old w.mouth w.errors (w.errors + 1) d (λ was. omega arith) (λ was. let no : true ≡ false = sym is ∙ was in cc) goes))
+    | inr ge ↦ subst (λ b. Going_on old w.errors (cond b (with_error w) (ended Hundred (with_error w)))) (sym (lt_false (w.errors + 1) 100 ge)) (inl refl)
+  ]
+
+  handled_goes : (old : Mouth) (w : World) (y : Yield) → Within w → Goes old (turned w.mouth y) → Going_on old w.errors (handled start w y)
+  handled_goes old w Quiet within goes = inr (within, quiet_on old w.mouth w.errors goes)
+  handled_goes old w (Act d) within goes = counted_goes old (with_deeds (d ∷ []) w) d (is_error d) refl within goes
+  handled_goes old w (Load name) within goes =
+      let loaded = load_of (files_after w.trace start.files name) in
+      let same = resumed_no_more w.mouth loaded in
+      inr ((omega (arith, same.spent, within.0), within.1), load_on old w.mouth (resumed w.mouth loaded) w.errors name same goes)
+  handled_goes old w (Done e) within goes = inl refl
+
+  step_goes : (w : World) → w.end ≡ None → w.errors < 100 → Going_on w.mouth w.errors (step start w)
+  unfolding step
+  step_goes w none few = subst (λ (o : Option End). Going_on w.mouth w.errors (step_from start w o)) (sym none) (elim (cases_lt start.job.budget (turn_of w.mouth).now.spent) [
+    | inl lt ↦
+        subst
+        (λ b. Going_on w.mouth w.errors (cond b (ended Spent w) (handled start (turned_on w) (turn_of w.mouth).did)))
         (sym (lt_true start.job.budget (turn_of w.mouth).now.spent lt))
         (inl refl)
     | inr ge ↦
         subst
-        (λ b. Going_on w.mouth (cond b (ended Spent w) (handled start (turned_on w) (turn_of w.mouth).did)))
+        (λ b. Going_on w.mouth w.errors (cond b (ended Spent w) (handled start (turned_on w) (turn_of w.mouth).did)))
         (sym (lt_false start.job.budget (turn_of w.mouth).now.spent ge))
-        (handled_falls w.mouth (turned_on w) (turn_of w.mouth).did ge (turn_goes w.mouth))
+        (handled_goes w.mouth (turned_on w) (turn_of w.mouth).did (ge, few) (turn_goes w.mouth))
   ])
 
   cases_end : (o : Option End) → (o ≡ None) ⊎ IsSome o
@@ -172,28 +180,61 @@ module _ (start : Start) where
   abbrev Last : Type 0
   Last = (m : ℕ) × IsSome (chain start m).end
 
-  -- turns that charge nothing come to a charge or an end
-  free_ends : (s : ℕ) → ((m : ℕ) → s < (chain start m).mouth.spent → (chain start m).mouth.spent ≤ start.job.budget → Last) → (i n : ℕ) → (chain start n).mouth.spent ≡ s → weight (chain start n).mouth ≤ i → Last
+  -- the next world is the last, or goes on
+  next_goes : (n : ℕ) → Within (chain start n) → Last ⊎ (Within (chain start (suc n)) × GoesOn (chain start n).mouth (chain start n).errors (chain start (suc n)).mouth (chain start (suc n)).errors)
   unfolding chain
-  free_ends s next zero n same light = elim (cases_end (chain start n).end) [
-    | inl none ↦ elim (step_falls (chain start n) none) [
-      | inl has ↦ (suc n, has)
-      | inr on ↦ elim on.1 [ inl more ↦ next (suc n) (omega (arith, same, more)) on.0 | inr less ↦ absurd (omega (arith, less.1, light)) ]
-    ]
-    | inr has ↦ (n, has)
-  ]
-  free_ends s next (suc i) n same light = elim (cases_end (chain start n).end) [
-    | inl none ↦ elim (step_falls (chain start n) none) [
-      | inl has ↦ (suc n, has)
-      | inr on ↦ elim on.1 [ inl more ↦ next (suc n) (omega (arith, same, more)) on.0 | inr less ↦ free_ends s next i (suc n) (omega (arith, same, less.0)) (omega (arith, less.1, light)) ]
-    ]
-    | inr has ↦ (n, has)
+  next_goes n within = elim (cases_end (chain start n).end) [
+    | inl none ↦ elim (step_goes (chain start n) none within.1) [ inl has ↦ inl (suc n, has) | inr on ↦ inr on ]
+    | inr has ↦ inl (n, has)
   ]
 
-  ends_from : (k n : ℕ) → start.job.budget ≤ (chain start n).mouth.spent + k → Last
-  ends_from zero n near = free_ends (chain start n).mouth.spent (λ m more le. absurd (omega (arith, near, more, le))) (weight (chain start n).mouth) n refl (omega arith)
-  ends_from (suc k) n near = free_ends (chain start n).mouth.spent (λ m more le. ends_from k m (omega (arith, near, more))) (weight (chain start n).mouth) n refl (omega arith)
+  -- turns that take no step and report no error come to one that does, or to an end
+  free_ends : (s e : ℕ) → ((m : ℕ) → s < (chain start m).mouth.spent → Within (chain start m) → Last) → ((m : ℕ) → (chain start m).mouth.spent ≡ s → e < (chain start m).errors → Within (chain start m) → Last) → (i n : ℕ) → (chain start n).mouth.spent ≡ s → (chain start n).errors ≡ e → weight (chain start n).mouth ≤ i → Within (chain start n) → Last
+  free_ends s e stepped erred zero n same few light within = elim (next_goes n within) [
+    | inl last ↦ last
+    | inr on ↦ elim on.1 [
+      | inl more ↦ stepped (suc n) (omega (arith, same, more)) on.0
+      | inr free ↦ elim free [
+        | inl err ↦ erred (suc n) (omega (arith, same, err.0)) (omega (arith, few, err.1)) on.0
+        | inr less ↦ absurd (omega (arith, less.2, light))
+      ]
+    ]
+  ]
+  free_ends s e stepped erred (suc i) n same few light within = elim (next_goes n within) [
+    | inl last ↦ last
+    | inr on ↦ elim on.1 [
+      | inl more ↦ stepped (suc n) (omega (arith, same, more)) on.0
+      | inr free ↦ elim free [
+        | inl err ↦ erred (suc n) (omega (arith, same, err.0)) (omega (arith, few, err.1)) on.0
+        | inr less ↦ free_ends s e stepped erred i (suc n) (omega (arith, same, less.0)) (omega (arith, few, less.1)) (omega (arith, less.2, light)) on.0
+      ]
+    ]
+  ]
+
+  -- turns that take no step come to one that does, or to an end: errors are few
+  errors_end : (s : ℕ) → ((m : ℕ) → s < (chain start m).mouth.spent → Within (chain start m) → Last) → (k n : ℕ) → (chain start n).mouth.spent ≡ s → 100 ≤ (chain start n).errors + k → Within (chain start n) → Last
+  errors_end s stepped zero n same near within = absurd (omega (arith, near, within.1))
+  errors_end s stepped (suc k) n same near within =
+      free_ends
+      s
+      (chain start n).errors
+      stepped
+      (λ m still more fine. errors_end s stepped k m still (omega (arith, near, more)) fine)
+      (weight (chain start n).mouth)
+      n
+      same
+      refl
+      (omega arith)
+      within
+
+  ends_from : (k n : ℕ) → start.job.budget ≤ (chain start n).mouth.spent + k → Within (chain start n) → Last
+  ends_from zero n near within = errors_end (chain start n).mouth.spent (λ m more fine. absurd (omega (arith, near, more, fine.0))) 100 n refl (omega arith) within
+  ends_from (suc k) n near within = errors_end (chain start n).mouth.spent (λ m more fine. ends_from k m (omega (arith, near, more)) fine) 100 n refl (omega arith) within
+
+  first_within : Within (chain start 0)
+  unfolding chain opening first_mouth
+  first_within = (omega arith, omega arith)
 
   -- the chain has a last world
   pub mean_of : (w : World) × IsMean start w
-  mean_of = let end = ends_from start.job.budget 0 (omega arith) in (chain start end.0, record { turns = end.0; reached = refl; has_ended = end.1 })
+  mean_of = let end = ends_from start.job.budget 0 (omega arith) first_within in (chain start end.0, record { turns = end.0; reached = refl; has_ended = end.1 })

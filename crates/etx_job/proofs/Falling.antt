@@ -1,4 +1,4 @@
--- Each turn ends the job, takes a step, or makes the weight less.
+-- Each turn ends the job, reports an error, takes a step, or makes the weight less.
 use Rattle.std.proofs.Common.{◌≡◌, ℕ, List, Bool, true, false, ap, ◌∙◌, ◌+◌, ◌<◌, ◌≤◌, inl, inr, refl, sym, subst, arith, Option, Some, None}
 use Rattle.etx_outside.specs.declared.tree.Loaded.{Loaded}
 use Rattle.etx_outside.specs.declared.tree.Loaded.TheVariants as loaded
@@ -21,13 +21,13 @@ steps_more n false = omega arith
 
 token_goes : (got : Option Lexed) (file : FileState) (v : Mouth) → Goes v (token_turn got file v)
 token_goes None file v = inl tt
-token_goes (Some got) file v = inr (inl (steps_more v.spent (scan_row v.scan got v.categories).plan.is_copied))
+token_goes (Some got) file v = inr (inr (inl (steps_more v.spent (scan_row v.scan got v.categories).plan.is_copied)))
 
 next_goes : (file : FileState) (v : Mouth) → Goes v (next_turn (next_of (category_in v.categories) file) v)
 next_goes file v = token_goes (next_of (category_in v.categories) file).lexed (next_of (category_in v.categories) file).file v
 
 reading_goes : (s : Scan) (file : FileState) (v : Mouth) → v.scan ≡ s → Goes v (reading_turn s file v)
-reading_goes (scan.Say text) file v is = let one : turns_to_say v.scan ≡ 1 = ap turns_to_say is in inr (inr (refl, omega (arith, one)))
+reading_goes (scan.Say text) file v is = let one : turns_to_say v.scan ≡ 1 = ap turns_to_say is in inr (inr (inr (refl, omega (arith, one))))
 reading_goes scan.Commands file v is = next_goes file v
 reading_goes scan.CatcodeQuote file v is = next_goes file v
 reading_goes scan.CatcodeCharacter file v is = next_goes file v
@@ -39,9 +39,9 @@ reading_goes scan.MessageBrace file v is = next_goes file v
 reading_goes (scan.MessageText m) file v is = next_goes file v
 
 source_goes : (s : Source) (v : Mouth) → v.source ≡ s → Goes v (source_turn s v)
-source_goes (Unasked name) v is = let three : turns_before v.source ≡ 3 = ap turns_before is in inr (inr (refl, omega (arith, three)))
+source_goes (Unasked name) v is = let three : turns_before v.source ≡ 3 = ap turns_before is in inr (inr (inr (refl, omega (arith, three))))
 source_goes (Awaited name) v is = inl tt
-source_goes (Absent name) v is = let one : turns_before v.source ≡ 1 = ap turns_before is in inr (inr (refl, omega (arith, one)))
+source_goes (Absent name) v is = let one : turns_before v.source ≡ 1 = ap turns_before is in inr (inr (inr (refl, omega (arith, one))))
 source_goes Refused v is = inl tt
 source_goes (Reading file) v is = reading_goes v.scan file v refl
 

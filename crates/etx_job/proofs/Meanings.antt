@@ -8,7 +8,8 @@ use Rattle.etx_matter.specs.declared.end.Status.{Status}
 use Rattle.etx_matter.specs.declared.end.Status.TheVariants.{Clean, Errors, Stopped, Spent, Usage, ReadFault, WriteFault, OutOfMemory}
 use Rattle.etx_job.specs.Chain.{Start, World, IsMean}
 use Rattle.etx_job.specs.Going.{IsFor, Cut, Settled}
-use Rattle.etx_job.specs.Meaning.{Meaning, IsEnding, IsRefusal, status_of, start_of, job_asked, usage, IsMeaningOfJob, IsMeaning}
+use Rattle.etx_job.specs.Meaning.{Meaning, IsEnding, IsRefusal, status_of, start_of, usage, IsMeaningOfJob, IsMeaning}
+use Rattle.etx_job.specs.Words.{job_asked}
 use Rattle.etx_job.proofs.Ends.{cut_of_mean, one_mean, mean_of}
 
 -- an end that is there

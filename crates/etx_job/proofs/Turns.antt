@@ -17,19 +17,19 @@ use Rattle.etx_job.specs.declared.scan.Yield.{Yield}
 use Rattle.etx_job.specs.declared.scan.Yield.TheVariants.{Quiet, Act, Load, Done}
 use Rattle.etx_job.specs.Turn.{turn_of, resumed, line_number_of}
 use Rattle.etx_job.specs.Chain.{Start, World, with_deeds, closing, ended, handled, step_open, step, chain}
-use Rattle.etx_job.specs.Going.{more_waiting, world_of, IsFor, Going, Over, AfterTurn, Asks, Cut}
+use Rattle.etx_job.specs.Going.{more_waiting, world_of, IsFor, Going, Over, AfterTurn, Asks, Acts, Cut}
 use Rattle.etx_job.specs.Meaning.{AtAsk}
 
 abbrev pub flushed : JournalState → JournalState
 flushed journal = record { pen = pen_after_all journal.pen journal.waiting; waiting = [] }
 
 -- deeds that wait are deeds of the world
-waiting_more : (mouth : Mouth) (journal : JournalState) (done : History) (end : Option End) (ds : List Deed)
-    → record (with_deeds ds (world_of mouth journal done None)) { end = end } ≡ world_of mouth (more_waiting journal ds) done end
-waiting_more mouth journal done end ds =
+pub waiting_more : (mouth : Mouth) (errors : ℕ) (journal : JournalState) (done : History) (end : Option End) (ds : List Deed)
+    → record (with_deeds ds (world_of mouth errors journal done None)) { end = end } ≡ world_of mouth errors (more_waiting journal ds) done end
+waiting_more mouth errors journal done end ds =
     let pen = sym (pen_after_all-append journal.pen journal.waiting ds) in
     let trace = append_assoc done (entries journal.pen journal.waiting) (entries (pen_after_all journal.pen journal.waiting) ds) ∙ ap (λ (h : History). done ++ h) (sym (entries-append journal.pen journal.waiting ds)) in
-    λ i. record { mouth = mouth; pen = pen i; trace = trace i; end = end }
+    λ i. record { mouth = mouth; errors = errors; pen = pen i; trace = trace i; end = end }
 
 pub lt_true : (a b : ℕ) → a < b → nat_lt a b ≡ true
 lt_true a b h = grind (arith, nat_tests)
@@ -37,12 +37,12 @@ lt_true a b h = grind (arith, nat_tests)
 pub lt_false : (a b : ℕ) → b ≤ a → nat_lt a b ≡ false
 lt_false a b h = grind (arith, nat_tests)
 
-module _ {start : Start} {first now : Outside} {mouth : Mouth} {journal : JournalState} (g : Going start first mouth journal now) where
+module _ {start : Start} {first now : Outside} {mouth : Mouth} {errors : ℕ} {journal : JournalState} (g : Going start first mouth errors journal now) where
   abbrev here : World
-  here = world_of mouth journal g.done None
+  here = world_of mouth errors journal g.done None
 
   abbrev there : World
-  there = world_of (turn_of mouth).now journal g.done None
+  there = world_of (turn_of mouth).now errors journal g.done None
 
   next_world : chain start (suc g.turns) ≡ step_open start here
   unfolding chain step
@@ -57,23 +57,19 @@ module _ {start : Start} {first now : Outside} {mouth : Mouth} {journal : Journa
   yields : (y : Yield) → (turn_of mouth).now.spent ≤ start.job.budget → (turn_of mouth).did ≡ y → chain start (suc g.turns) ≡ handled start there y
   yields y le is = within le ∙ ap (handled start there) is
 
-  pub turn_quiet : (turn_of mouth).now.spent ≤ start.job.budget → (turn_of mouth).did ≡ Quiet → Going start first (turn_of mouth).now journal now
+  pub turn_quiet : (turn_of mouth).now.spent ≤ start.job.budget → (turn_of mouth).did ≡ Quiet → Going start first (turn_of mouth).now errors journal now
   turn_quiet lt is = record { turns = suc g.turns; done = g.done; at = yields Quiet lt is; now_is = g.now_is }
 
-  pub turn_act : (d : Deed) → (turn_of mouth).now.spent ≤ start.job.budget → (turn_of mouth).did ≡ Act d → Going start first (turn_of mouth).now (more_waiting journal (d ∷ [])) now
-  turn_act d lt is = record {
-    turns = suc g.turns;
-    done = g.done;
-    at = yields (Act d) lt is ∙ waiting_more (turn_of mouth).now journal g.done None (d ∷ []);
-    now_is = g.now_is;
-  }
+  pub turn_act : (d : Deed) → (turn_of mouth).now.spent ≤ start.job.budget → (turn_of mouth).did ≡ Act d → Acts start first (turn_of mouth).now errors journal d now
+  turn_act d lt is = record { turns = g.turns; done = g.done; next = yields (Act d) lt is; now_is = g.now_is }
 
   pub turn_done : (e : End) → (turn_of mouth).now.spent ≤ start.job.budget → (turn_of mouth).did ≡ Done e → Over start first (more_waiting journal (closing e (line_number_of (turn_of mouth).now))) e now
   turn_done e lt is = record {
     turns = suc g.turns;
     mouth = (turn_of mouth).now;
+    errors = errors;
     done = g.done;
-    at = yields (Done e) lt is ∙ waiting_more (turn_of mouth).now journal g.done (Some e) (closing e (line_number_of (turn_of mouth).now));
+    at = yields (Done e) lt is ∙ waiting_more (turn_of mouth).now errors journal g.done (Some e) (closing e (line_number_of (turn_of mouth).now));
     now_is = g.now_is;
   }
 
@@ -81,12 +77,13 @@ module _ {start : Start} {first now : Outside} {mouth : Mouth} {journal : Journa
   turn_spent le = record {
     turns = suc g.turns;
     mouth = mouth;
+    errors = errors;
     done = g.done;
-    at = beyond le ∙ waiting_more mouth journal g.done (Some Spent) (closing Spent 0);
+    at = beyond le ∙ waiting_more mouth errors journal g.done (Some Spent) (closing Spent 0);
     now_is = g.now_is;
   }
 
-  pub turn_asks : (name : List ℕ) → (turn_of mouth).now.spent ≤ start.job.budget → (turn_of mouth).did ≡ Load name → Asks start first (turn_of mouth).now journal name now
+  pub turn_asks : (name : List ℕ) → (turn_of mouth).now.spent ≤ start.job.budget → (turn_of mouth).did ≡ Load name → Asks start first (turn_of mouth).now errors journal name now
   turn_asks name lt is = record {
     turns = g.turns;
     done = g.done;
@@ -95,28 +92,34 @@ module _ {start : Start} {first now : Outside} {mouth : Mouth} {journal : Journa
     at = ap (λ (w : World). w.trace) g.at;
   }
 
--- what waits was written
-pub going_flushed : {start : Start} {first now new : Outside} {mouth : Mouth} {journal : JournalState} → Going start first mouth journal now → new ≡ after (entries journal.pen journal.waiting) now → Going start first mouth (flushed journal) new
-going_flushed {start} {first} {now} {new} {mouth} {journal} g wrote =
-    let whole = g.done ++ entries journal.pen journal.waiting in
-    record {
-      turns = g.turns;
-      done = whole;
-      at = g.at ∙ (λ i. record {
-        mouth = mouth;
-        pen = pen_after_all journal.pen journal.waiting;
-        trace = sym (append-nil whole) i;
-        end = None;
-      });
-      now_is = wrote ∙ ap (after (entries journal.pen journal.waiting)) g.now_is ∙ sym (after-append g.done (entries journal.pen journal.waiting) first);
-    }
+-- what waits was written, and belongs to what came before
+pub world_flushed : (mouth : Mouth) (errors : ℕ) (journal : JournalState) (done : History) (end : Option End)
+    → world_of mouth errors journal done end ≡ world_of mouth errors (flushed journal) (done ++ entries journal.pen journal.waiting) end
+world_flushed mouth errors journal done end = λ i. record {
+  mouth = mouth;
+  errors = errors;
+  pen = pen_after_all journal.pen journal.waiting;
+  trace = sym (append-nil (done ++ entries journal.pen journal.waiting)) i;
+  end = end;
+}
 
--- the same, of a mouth and a journal that are equal
-pub going_is : {start : Start} {first now : Outside} {mouth mouth' : Mouth} {journal journal' : JournalState} → Going start first mouth journal now → mouth' ≡ mouth → journal' ≡ journal → Going start first mouth' journal' now
-going_is g same_mouth same_journal = record {
+pub now_flushed : (first : Outside) {now new : Outside} (journal : JournalState) (done : History) → now ≡ after done first → new ≡ after (entries journal.pen journal.waiting) now → new ≡ after (done ++ entries journal.pen journal.waiting) first
+now_flushed first journal done now_is wrote = wrote ∙ ap (after (entries journal.pen journal.waiting)) now_is ∙ sym (after-append done (entries journal.pen journal.waiting) first)
+
+pub going_flushed : {start : Start} {first now new : Outside} {mouth : Mouth} {errors : ℕ} {journal : JournalState} → Going start first mouth errors journal now → new ≡ after (entries journal.pen journal.waiting) now → Going start first mouth errors (flushed journal) new
+going_flushed {start} {first} {now} {new} {mouth} {errors} {journal} g wrote = record {
+  turns = g.turns;
+  done = g.done ++ entries journal.pen journal.waiting;
+  at = g.at ∙ world_flushed mouth errors journal g.done None;
+  now_is = now_flushed first journal g.done g.now_is wrote;
+}
+
+-- the same, of a mouth, a count and a journal that are equal
+pub going_is : {start : Start} {first now : Outside} {mouth mouth' : Mouth} {errors : ℕ} {journal journal' : JournalState} → Going start first mouth errors journal now → mouth' ≡ mouth → journal' ≡ journal → Going start first mouth' errors journal' now
+going_is {errors = errors} g same_mouth same_journal = record {
   turns = g.turns;
   done = g.done;
-  at = g.at ∙ (λ i. world_of (sym same_mouth i) (sym same_journal i) g.done None);
+  at = g.at ∙ (λ i. world_of (sym same_mouth i) errors (sym same_journal i) g.done None);
   now_is = g.now_is;
 }
 
@@ -124,22 +127,31 @@ pub over_is : {start : Start} {first now : Outside} {journal journal' : JournalS
 over_is {e = e} o same = record {
   turns = o.turns;
   mouth = o.mouth;
+  errors = o.errors;
   done = o.done;
-  at = o.at ∙ (λ i. world_of o.mouth (sym same i) o.done (Some e));
+  at = o.at ∙ (λ i. world_of o.mouth o.errors (sym same i) o.done (Some e));
   now_is = o.now_is;
 }
 
-pub asks_is : {start : Start} {first now : Outside} {mouth mouth' : Mouth} {journal : JournalState} {name name' : List ℕ} → Asks start first mouth journal name now → mouth' ≡ mouth → name' ≡ name → Asks start first mouth' journal name' now
-asks_is {start = start} {journal = journal} a same_mouth same_name = record {
+pub asks_is : {start : Start} {first now : Outside} {mouth mouth' : Mouth} {errors : ℕ} {journal : JournalState} {name name' : List ℕ} → Asks start first mouth errors journal name now → mouth' ≡ mouth → name' ≡ name → Asks start first mouth' errors journal name' now
+asks_is {start = start} {errors = errors} {journal = journal} a same_mouth same_name = record {
   turns = a.turns;
   done = a.done;
-  next = a.next ∙ (λ i. handled start (world_of (sym same_mouth i) journal a.done None) (Load (sym same_name i)));
+  next = a.next ∙ (λ i. handled start (world_of (sym same_mouth i) errors journal a.done None) (Load (sym same_name i)));
   now_is = a.now_is;
   at = a.at;
 }
 
+pub acts_is : {start : Start} {first now : Outside} {mouth mouth' : Mouth} {errors : ℕ} {journal : JournalState} {d : Deed} → Acts start first mouth errors journal d now → mouth' ≡ mouth → Acts start first mouth' errors journal d now
+acts_is {start = start} {errors = errors} {journal = journal} {d = d} a same_mouth = record {
+  turns = a.turns;
+  done = a.done;
+  next = a.next ∙ (λ i. handled start (world_of (sym same_mouth i) errors journal a.done None) (Act d));
+  now_is = a.now_is;
+}
+
 -- a front of what waits was written
-pub cut_going : {start : Start} {first now new : Outside} {mouth : Mouth} {journal : JournalState} → Going start first mouth journal now → Front (entries journal.pen journal.waiting) now new → Cut start first new
+pub cut_going : {start : Start} {first now new : Outside} {mouth : Mouth} {errors : ℕ} {journal : JournalState} → Going start first mouth errors journal now → Front (entries journal.pen journal.waiting) now new → Cut start first new
 cut_going {start} {first} {now} {new} g f = record {
   turns = g.turns;
   front = subst (λ (w : World). Front w.trace first new) (sym g.at) (front_behind g.done g.now_is f);
@@ -152,23 +164,23 @@ cut_over {start} {first} {now} {new} o f = record {
 }
 
 -- what stands after a turn, where it is known whether the turn ended the job
-pub over_of : (start : Start) (first : Outside) (mouth : Mouth) (journal : JournalState) (now : Outside) {o : Option End} {e : End} → o ≡ Some e → AfterTurn o start first mouth journal now → Over start first journal e now
-over_of start first mouth journal now is after = subst (λ (o : Option End). AfterTurn o start first mouth journal now) is after
+pub over_of : (start : Start) (first : Outside) (mouth : Mouth) (errors : ℕ) (journal : JournalState) (now : Outside) {o : Option End} {e : End} → o ≡ Some e → AfterTurn o start first mouth errors journal now → Over start first journal e now
+over_of start first mouth errors journal now is after = subst (λ (o : Option End). AfterTurn o start first mouth errors journal now) is after
 
-pub going_of : (start : Start) (first : Outside) (mouth : Mouth) (journal : JournalState) (now : Outside) {o : Option End} → o ≡ None → AfterTurn o start first mouth journal now → Going start first mouth journal now
-going_of start first mouth journal now is after = subst (λ (o : Option End). AfterTurn o start first mouth journal now) is after
+pub going_of : (start : Start) (first : Outside) (mouth : Mouth) (errors : ℕ) (journal : JournalState) (now : Outside) {o : Option End} → o ≡ None → AfterTurn o start first mouth errors journal now → Going start first mouth errors journal now
+going_of start first mouth errors journal now is after = subst (λ (o : Option End). AfterTurn o start first mouth errors journal now) is after
 
 -- nothing more was written
-pub cut_here : {start : Start} {first now : Outside} {mouth : Mouth} {journal : JournalState} → Going start first mouth journal now → Cut start first now
+pub cut_here : {start : Start} {first now : Outside} {mouth : Mouth} {errors : ℕ} {journal : JournalState} → Going start first mouth errors journal now → Cut start first now
 cut_here g = cut_going g (front_none _ refl)
 
-module _ {start : Start} {first now : Outside} {mouth : Mouth} {journal : JournalState} {name : List ℕ} (a : Asks start first mouth journal name now) where
+module _ {start : Start} {first now : Outside} {mouth : Mouth} {errors : ℕ} {journal : JournalState} {name : List ℕ} (a : Asks start first mouth errors journal name now) where
   pub cut_flush : {new : Outside} → Front (entries journal.pen journal.waiting) now new → Cut start first new
   cut_flush {new} f = record { turns = a.turns; front = subst (λ (h : History). Front h first new) (sym a.at) (front_behind a.done a.now_is f) }
 
   module _ {flushed_now : Outside} (wrote : flushed_now ≡ after (entries journal.pen journal.waiting) now) where
     all : flushed_now ≡ after (a.done ++ entries journal.pen journal.waiting) first
-    all = wrote ∙ ap (after (entries journal.pen journal.waiting)) a.now_is ∙ sym (after-append a.done (entries journal.pen journal.waiting) first)
+    all = now_flushed first journal a.done a.now_is wrote
 
     asked_all : {asked_now : Outside} → asked_now ≡ after (Asked name ∷ []) flushed_now → asked_now ≡ after (a.done ++ entries journal.pen journal.waiting ++ Asked name ∷ []) first
     asked_all asked = asked ∙ ap (after (Asked name ∷ [])) all ∙ sym (after-append (a.done ++ entries journal.pen journal.waiting) (Asked name ∷ []) first)
@@ -184,7 +196,7 @@ module _ {start : Start} {first now : Outside} {mouth : Mouth} {journal : Journa
     pub cut_load : {asked_now : Outside} → Front (Asked name ∷ []) flushed_now asked_now → Cut start first asked_now
     cut_load {asked_now} f = record { turns = suc a.turns; front = subst (λ (w : World). Front w.trace first asked_now) (sym a.next) (front_behind (a.done ++ entries journal.pen journal.waiting) all f) }
 
-    pub answered : {asked_now : Outside} (loaded : Loaded) → IsFor start first → asked_now ≡ after (Asked name ∷ []) flushed_now → loaded ≡ load_of (flushed_now.files name) → Going start first (resumed mouth loaded) (flushed journal) asked_now
+    pub answered : {asked_now : Outside} (loaded : Loaded) → IsFor start first → asked_now ≡ after (Asked name ∷ []) flushed_now → loaded ≡ load_of (flushed_now.files name) → Going start first (resumed mouth loaded) errors (flushed journal) asked_now
     unfolding after
     answered {asked_now} loaded files asked answer =
         let whole = a.done ++ entries journal.pen journal.waiting in
@@ -194,6 +206,7 @@ module _ {start : Start} {first now : Outside} {mouth : Mouth} {journal : Journa
           done = whole ++ Asked name ∷ [];
           at = a.next ∙ (λ i. record {
             mouth = resumed mouth (there i);
+            errors = errors;
             pen = pen_after_all journal.pen journal.waiting;
             trace = sym (append-nil (whole ++ Asked name ∷ [])) i;
             end = None;

@@ -1,5 +1,5 @@
 -- The plain meaning of a job: a chain of worlds, each the step of the one before, up to an end.
-use Rattle.std.specs.Prelude.{◌≡◌, ℕ, zero, suc, List, [], ◌∷◌, ◌++◌, Option, Some, None, IsSome, nat_lt, if◌then◌else◌, codes}
+use Rattle.std.specs.Prelude.{◌≡◌, ℕ, zero, suc, ◌+◌, Bool, true, false, List, [], ◌∷◌, ◌++◌, Option, Some, None, IsSome, nat_lt, if◌then◌else◌, codes}
 use Rattle.etx_outside.specs.Entries.{Files, Asked, History, files_after}
 use Rattle.etx_outside.specs.Loading.{load_of}
 use Rattle.etx_settle.specs.Deeds.{PenState, first_pen, entries, pen_after_all}
@@ -15,6 +15,7 @@ use Rattle.etx_matter.specs.Jobs.{JobState}
 use Rattle.etx_job.specs.declared.mouth.Mouth.{Mouth}
 use Rattle.etx_job.specs.declared.scan.Yield.{Yield}
 use Rattle.etx_job.specs.declared.scan.Yield.TheVariants.{Quiet, Act, Load, Done}
+use Rattle.etx_job.specs.Errors.{is_error, most_errors}
 use Rattle.etx_job.specs.Turn.{turn_of, resumed, first_mouth, line_number_of}
 use Rattle.etx_job.specs.Words.{log_name}
 
@@ -23,9 +24,11 @@ pub record Start : Type 0 where
   pub job : JobState
   pub files : Files
 
--- a job between two steps: its mouth, the pen, all that it has done to the outside, and its end, if it has ended
+-- a job between two steps: its mouth, the errors since the last paragraph ended, the pen, all that it has done to the outside,
+-- and its end, if it has ended
 pub record World : Type 0 where
   pub mouth : Mouth
+  pub errors : ℕ
   pub pen : PenState
   pub trace : History
   pub end : Option End
@@ -75,10 +78,22 @@ closing Unbuilt line = closing_by (codes "*** (not built yet)\n")
 abbrev pub ended : End → World → World
 ended e w = record (with_deeds (closing e (line_number_of w.mouth)) w) { end = Some e }
 
--- what a yield makes of a world
+-- the last error that a job may have ends it
+abbrev pub unless_last : World → World
+unless_last w = if nat_lt w.errors most_errors then w else ended Hundred w
+
+abbrev pub with_error : World → World
+with_error w = record w { errors = w.errors + 1 }
+
+-- a deed is counted if it is an error
+abbrev pub counted : Bool → World → World
+counted false w = w
+counted true w = unless_last (with_error w)
+
+-- what a yield makes of a world: a deed is done, and then counted if it is an error
 abbrev pub handled : Start → World → Yield → World
 handled start w Quiet = w
-handled start w (Act d) = with_deeds (d ∷ []) w
+handled start w (Act d) = counted (is_error d) (with_deeds (d ∷ []) w)
 handled start w (Load name) = record w { mouth = resumed w.mouth (load_of (files_after w.trace start.files name)); trace = w.trace ++ Asked name ∷ [] }
 handled start w (Done e) = ended e w
 
@@ -101,6 +116,7 @@ step start w = step_from start w w.end
 unfoldable pub opening : Start → World
 opening start = with_deeds (Create (log_name start.job.name) ∷ []) (record {
   mouth = first_mouth start.job.name;
+  errors = 0;
   pen = first_pen;
   trace = [];
   end = None;

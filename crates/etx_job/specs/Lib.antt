@@ -1,5 +1,6 @@
 pub mod Categories
 pub mod Chain
+pub mod Errors
 pub mod Fault
 pub mod Going
 pub mod Meaning

@@ -1,5 +1,5 @@
 -- What the words of the command line mean: a history and a status.
-use Rattle.std.specs.Prelude.{◌≡◌, ℕ, suc, Bool, true, false, List, [], ◌∷◌, ◌++◌, Option, Some, None, MatchOption, option_map, codes}
+use Rattle.std.specs.Prelude.{◌≡◌, ℕ, suc, Bool, true, false, List, [], ◌∷◌, ◌++◌, Option, Some, None, MatchOption, codes}
 use Rattle.etx_outside.specs.Entries.{Files, Asked, History, shown}
 use Rattle.etx_outside.specs.Outside.{Outside, after, Faults}
 use Rattle.etx_outside.specs.Faults.{Rose}
@@ -9,7 +9,7 @@ use Rattle.etx_matter.specs.declared.end.End.TheVariants as end
 use Rattle.etx_matter.specs.declared.end.Status.{Status}
 use Rattle.etx_matter.specs.declared.end.Status.TheVariants.{Clean, Errors, Stopped, Spent, Usage, ReadFault, WriteFault, OutOfMemory}
 use Rattle.etx_job.specs.Chain.{Start, World, chain, IsMean}
-use Rattle.etx_job.specs.Words.{file_asked}
+use Rattle.etx_job.specs.Words.{job_asked}
 
 pub record Meaning : Type 0 where
   pub history : History
@@ -59,19 +59,8 @@ pub record NoneRose (old new : Faults) : Type 0 where
 abbrev pub usage_line : List ℕ
 usage_line = codes "usage: etx run|alone [--workers N] [--steps N] FILE, etx gen N\n"
 
--- the steps that a job may take where no word says otherwise
-abbrev pub default_budget : ℕ
-default_budget = 100000000
-
-abbrev pub job_of : List ℕ → JobState
-job_of name = record { name = name; budget = default_budget }
-
 abbrev pub start_of : JobState → Files → Start
 start_of job files = record { job = job; files = files }
-
--- the job that the words ask for, if they are of a known form
-abbrev pub job_asked : List (List ℕ) → Option JobState
-job_asked words = option_map job_of (file_asked words)
 
 -- words of no known form: the usage line is shown, and nothing else happens
 abbrev pub usage : Meaning

@@ -1,5 +1,7 @@
--- What each turn makes smaller, so that each job ends: a turn that takes no step makes the mouth's weight less.
-use Rattle.std.specs.Prelude.{◌≡◌, ℕ, ◌+◌, ◌<◌, ◌≤◌, ◌⊎◌}
+-- What each turn makes smaller, so that each job ends: a turn that takes no step and reports no error makes the mouth's weight
+-- less.
+use Rattle.std.specs.Prelude.{◌≡◌, ℕ, true, ◌+◌, ◌<◌, ◌≤◌, ◌⊎◌}
+use Rattle.etx_job.specs.Errors.{is_error}
 use Rattle.etx_job.specs.Turn.{Turned}
 use Rattle.etx_job.specs.declared.mouth.Mouth.{Mouth}
 use Rattle.etx_job.specs.declared.mouth.Source.{Source}
@@ -35,9 +37,20 @@ Ends (Act d) = ⊥
 Ends (Load name) = ⊥
 Ends (Done e) = Unit {0}
 
--- a turn ends the job, takes a step, or makes the weight less
+abbrev pub Errs : Yield → Type 0
+Errs Quiet = ⊥
+Errs (Act d) = is_error d ≡ true
+Errs (Load name) = ⊥
+Errs (Done e) = ⊥
+
+-- a turn ends the job, reports an error and gives no step back, takes a step, or makes the weight less
 abbrev pub Goes : Mouth → Turned → Type 0
-Goes old t = Ends t.did ⊎ Falls old t.now
+Goes old t = Ends t.did ⊎ (Errs t.did × (old.spent ≤ t.now.spent)) ⊎ Falls old t.now
+
+-- with the errors counted before and after: a step was taken, or an error was counted, or the weight fell
+abbrev pub GoesOn : Mouth → ℕ → Mouth → ℕ → Type 0
+GoesOn old errors new count =
+    (old.spent < new.spent) ⊎ ((new.spent ≡ old.spent) × (errors < count)) ⊎ ((new.spent ≡ old.spent) × (count ≡ errors) × (weight new < weight old))
 
 -- no step was taken, and the weight is no more than it was
 pub record IsNoMore (old new : Mouth) : Type 0 where

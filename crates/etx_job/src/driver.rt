@@ -1,16 +1,17 @@
 //! The driver: it makes the turns of a job's mouth, puts the deeds that they yield into a journal, and flushes it after
 //! each deed, before anything is asked for, and at the end.
-ghost use Rattle.std.specs.Prelude.{◌≡◌, ◌<◌, ◌≤◌, ◌+◌, ◌^◌, ◌++◌, [], ◌∷◌, List, ℕ, Option, Some, None, IfOk, OnOk, OnErr, IsErrOf};
+ghost use Rattle.std.specs.Prelude.{◌≡◌, ◌<◌, ◌≤◌, ◌+◌, ◌^◌, ◌++◌, [], ◌∷◌, List, ℕ, true, false, Option, Some, None, IfOk, OnOk, OnErr, IsErrOf};
 ghost use Rattle.etx_outside.specs.Faults.{Rose};
 ghost use Rattle.etx_outside.specs.Entries.{Asked};
 ghost use Rattle.etx_outside.specs.Loading.{load_of};
 ghost use Rattle.etx_outside.specs.Outside.{Outside, outside_of, after, Front, Faults, faults_of, NoneFell, WriteRose};
 ghost use Rattle.etx_settle.specs.Deeds.{JournalState, AllOpen, first_pen};
-ghost use Rattle.etx_job.specs.Measure.{Falls, IsNoMore};
+ghost use Rattle.etx_job.specs.Errors.{is_error};
+ghost use Rattle.etx_job.specs.Measure.{GoesOn, IsNoMore};
 ghost use Rattle.etx_job.specs.Words.{log_name};
 ghost use Rattle.etx_job.specs.Chain.{Start, printed, last_line, closing_by, reason_of, closing_fatally, full_text, closing_full, closing};
 ghost use Rattle.etx_job.specs.Meaning.{AtAsk};
-ghost use Rattle.etx_job.specs.Going.{more_waiting, IsFor, Going, AfterTurn, Asks, Cut, Settled};
+ghost use Rattle.etx_job.specs.Going.{more_waiting, IsFor, Going, AfterTurn, Asks, Acts, Cut, Settled};
 
 use crate::fault::Fault;
 use crate::mouth::Mouth;
@@ -19,10 +20,13 @@ use crate::words::name_log;
 use etx_lists::Bytes;
 use etx_matter::{Audience, Deed, End, FatalError, Job, Limit};
 use etx_outside::{Loaded, Terminal, Tree, TreeFault};
-use etx_settle::Journal;
+use etx_settle::{FlushFault, Journal};
 use std::alloc::{AllocError, Global};
 
 const BOTH: Audience = Audience::LogAndTerminal;
+
+/// The errors since the last paragraph ended at which a job gives up ("TeX: The Program", section 82).
+const MOST_ERRORS: u32 = 100;
 
 fn print(alloc: Global, text: &[u8], journal: &mut Journal) -> Result<(), AllocError>
     ensures { OnOk result (journal.new ≡ more_waiting journal.old (printed text.now ∷ [])) }
@@ -84,7 +88,7 @@ fn close_fatally(
     Ok(())
 }
 
-/// The text of a limit that would have been passed.
+/// The text of the error that a limit would have been passed.
 fn find_full(alloc: Global, limit: Limit) -> Result<Bytes, AllocError>
     ensures { IfOk result (λ text. text ≡ full_text limit) }
 {
@@ -94,7 +98,7 @@ fn find_full(alloc: Global, limit: Limit) -> Result<Bytes, AllocError>
     Ok(text)
 }
 
-/// The error of a limit that would have been passed, and the last line.
+/// That error, and the last line.
 fn close_full(
     alloc: Global,
     limit: Limit,
@@ -131,6 +135,54 @@ fn close(alloc: Global, end: End, line: u32, journal: &mut Journal) -> Result<()
     }
 }
 
+/// Whether a deed reports an error.
+fn is_error(deed: &Deed) -> bool
+    ensures { result ≡ is_error deed.now }
+{
+    match deed {
+        Deed::Error { .. } => true,
+        Deed::Fresh(_) | Deed::Space(_) | Deed::Text { .. } | Deed::Create(_) => false,
+    }
+}
+
+/// Writes a deed, and counts it if it is an error: the last that a job may have ends it.
+fn act<F: Tree, T: Terminal>(
+    alloc: Global,
+    deed: Deed,
+    errors: &mut u32,
+    journal: &mut Journal,
+    tree: &mut F,
+    terminal: &mut T,
+) -> Result<Option<End>, FlushFault>
+    requires open { AllOpen (F.is_open tree.old) journal.old.pen.created }
+    requires few { errors.old < 100 }
+    ensures going { IfOk result (λ end. F.tells → T.tells → (start : Start) (first : Outside) (mouth : Mouth) →
+        Acts start first mouth errors.old journal.old deed (outside_of F.files F.asked T.text tree.old terminal.old)
+        → AfterTurn end start first mouth errors.new journal.new (outside_of F.files F.asked T.text tree.new terminal.new)) }
+    ensures cut { F.tells → T.tells → (start : Start) (first : Outside) (mouth : Mouth) →
+        Acts start first mouth errors.old journal.old deed (outside_of F.files F.asked T.text tree.old terminal.old)
+        → Cut start first (outside_of F.files F.asked T.text tree.new terminal.new) }
+    ensures opened { OnOk result (AllOpen (F.is_open tree.new) journal.new.pen.created) }
+    ensures few { IfOk result (λ end. end ≡ None → errors.new < 100) }
+    ensures counted { OnOk result (is_error deed ≡ true → errors.old < errors.new) }
+    ensures same { OnOk result (is_error deed ≡ false → errors.new ≡ errors.old) }
+    ensures later { NoneFell (faults_of F.faults T.faults tree.old terminal.old) (faults_of F.faults T.faults tree.new terminal.new) }
+    ensures cause { IsErrOf result FlushFault.WriteFault → WriteRose (faults_of F.faults T.faults tree.old terminal.old) (faults_of F.faults T.faults tree.new terminal.new) }
+{
+    let is_error = is_error(&deed);
+    journal.push(deed)?;
+    journal.flush(tree, terminal)?;
+    if !is_error {
+        return Ok(None);
+    }
+    *errors += 1;
+    if *errors < MOST_ERRORS {
+        return Ok(None);
+    }
+    close(alloc, End::Hundred, 0, journal)?;
+    Ok(Some(End::Hundred))
+}
+
 /// Asks for a name. The terminal stays as it is.
 fn load<F: Tree, T: Terminal>(
     alloc: Global,
@@ -163,14 +215,14 @@ fn ask<F: Tree, T: Terminal>(
     terminal: &mut T,
 ) -> Result<(), Fault>
     requires { AllOpen (F.is_open tree.old) journal.old.pen.created }
-    ensures going { OnOk result (F.tells → T.tells → (start : Start) (first : Outside) → IsFor start first →
-        Asks start first mouth.old journal.old name.now (outside_of F.files F.asked T.text tree.old terminal.old)
-        → Going start first mouth.new journal.new (outside_of F.files F.asked T.text tree.new terminal.new)) }
-    ensures cut { F.tells → T.tells → (start : Start) (first : Outside) → IsFor start first →
-        Asks start first mouth.old journal.old name.now (outside_of F.files F.asked T.text tree.old terminal.old)
+    ensures going { OnOk result (F.tells → T.tells → (start : Start) (first : Outside) (errors : ℕ) → IsFor start first →
+        Asks start first mouth.old errors journal.old name.now (outside_of F.files F.asked T.text tree.old terminal.old)
+        → Going start first mouth.new errors journal.new (outside_of F.files F.asked T.text tree.new terminal.new)) }
+    ensures cut { F.tells → T.tells → (start : Start) (first : Outside) (errors : ℕ) → IsFor start first →
+        Asks start first mouth.old errors journal.old name.now (outside_of F.files F.asked T.text tree.old terminal.old)
         → Cut start first (outside_of F.files F.asked T.text tree.new terminal.new) }
-    ensures read_at { IsErrOf result Fault.ReadFault → F.tells → T.tells → (start : Start) (first : Outside) →
-        Asks start first mouth.old journal.old name.now (outside_of F.files F.asked T.text tree.old terminal.old)
+    ensures read_at { IsErrOf result Fault.ReadFault → F.tells → T.tells → (start : Start) (first : Outside) (errors : ℕ) →
+        Asks start first mouth.old errors journal.old name.now (outside_of F.files F.asked T.text tree.old terminal.old)
         → AtAsk start first (outside_of F.files F.asked T.text tree.new terminal.new) }
     ensures opened { OnOk result (AllOpen (F.is_open tree.new) journal.new.pen.created) }
     ensures no_more { OnOk result (IsNoMore mouth.old mouth.new) }
@@ -193,23 +245,27 @@ fn turn<F: Tree, T: Terminal>(
     alloc: Global,
     budget: u64,
     mouth: &mut Mouth,
+    errors: &mut u32,
     journal: &mut Journal,
     tree: &mut F,
     terminal: &mut T,
 ) -> Result<Option<End>, Fault>
     requires open { AllOpen (F.is_open tree.old) journal.old.pen.created }
     requires room { mouth.old.spent + 2 < 2 ^ 64 }
+    requires few { errors.old < 100 }
     ensures going { IfOk result (λ end. F.tells → T.tells → (start : Start) (first : Outside) → IsFor start first → start.job.budget ≡ budget →
-        Going start first mouth.old journal.old (outside_of F.files F.asked T.text tree.old terminal.old)
-        → AfterTurn end start first mouth.new journal.new (outside_of F.files F.asked T.text tree.new terminal.new)) }
+        Going start first mouth.old errors.old journal.old (outside_of F.files F.asked T.text tree.old terminal.old)
+        → AfterTurn end start first mouth.new errors.new journal.new (outside_of F.files F.asked T.text tree.new terminal.new)) }
     ensures cut { F.tells → T.tells → (start : Start) (first : Outside) → IsFor start first → start.job.budget ≡ budget →
-        Going start first mouth.old journal.old (outside_of F.files F.asked T.text tree.old terminal.old)
+        Going start first mouth.old errors.old journal.old (outside_of F.files F.asked T.text tree.old terminal.old)
         → Cut start first (outside_of F.files F.asked T.text tree.new terminal.new) }
     ensures read_at { IsErrOf result Fault.ReadFault → F.tells → T.tells → (start : Start) (first : Outside) → start.job.budget ≡ budget →
-        Going start first mouth.old journal.old (outside_of F.files F.asked T.text tree.old terminal.old)
+        Going start first mouth.old errors.old journal.old (outside_of F.files F.asked T.text tree.old terminal.old)
         → AtAsk start first (outside_of F.files F.asked T.text tree.new terminal.new) }
     ensures opened { OnOk result (AllOpen (F.is_open tree.new) journal.new.pen.created) }
-    ensures falls { IfOk result (λ end. end ≡ None → (mouth.new.spent ≤ budget) × Falls mouth.old mouth.new) }
+    ensures within { IfOk result (λ end. end ≡ None → mouth.new.spent ≤ budget) }
+    ensures few { IfOk result (λ end. end ≡ None → errors.new < 100) }
+    ensures goes { IfOk result (λ end. end ≡ None → GoesOn mouth.old errors.old mouth.new errors.new) }
     ensures later { NoneFell (faults_of F.faults T.faults tree.old terminal.old) (faults_of F.faults T.faults tree.new terminal.new) }
     ensures read_cause { IsErrOf result Fault.ReadFault → Rose (faults_of F.faults T.faults tree.old terminal.old).reads (faults_of F.faults T.faults tree.new terminal.new).reads }
     ensures write_cause { IsErrOf result Fault.WriteFault → WriteRose (faults_of F.faults T.faults tree.old terminal.old) (faults_of F.faults T.faults tree.new terminal.new) }
@@ -222,9 +278,8 @@ fn turn<F: Tree, T: Terminal>(
     match did {
         Yield::Quiet => Ok(None),
         Yield::Act(deed) => {
-            journal.push(deed)?;
-            journal.flush(tree, terminal)?;
-            Ok(None)
+            let end = act(alloc, deed, errors, journal, tree, terminal)?;
+            Ok(end)
         }
         Yield::Load(name) => {
             ask(alloc, name.as_slice(), mouth, journal, tree, terminal)?;
@@ -266,20 +321,35 @@ pub fn run<F: Tree, T: Terminal>(
     let mut journal = Journal::new(alloc);
     journal.push(Deed::Create(name_log(alloc, job.name())?))?;
     let mut mouth = Mouth::new(alloc, job.into_name())?;
-    // A turn may take no step, but then it makes the mouth's weight less: the inner loop ends by that, and the outer one
-    // since the budget is spent.
+    let mut errors = 0;
+    // A turn may take no step and report no error, but then it makes the mouth's weight less: the innermost loop ends by that,
+    // the next since errors are few, and the outermost since the budget is spent.
     'steps: loop {
         let before = mouth.spent;
-        'free: loop {
-            if let Some(end) = turn(alloc, budget, &mut mouth, &mut journal, tree, terminal)? {
-                journal.flush(tree, terminal)?;
-                return Ok(Ending {
-                    end,
-                    has_erred: journal.has_erred(),
-                });
-            }
-            if mouth.spent > before {
-                break;
+        'errors: loop {
+            let counted = errors;
+            'free: loop {
+                if let Some(end) = turn(
+                    alloc,
+                    budget,
+                    &mut mouth,
+                    &mut errors,
+                    &mut journal,
+                    tree,
+                    terminal,
+                )? {
+                    journal.flush(tree, terminal)?;
+                    return Ok(Ending {
+                        end,
+                        has_erred: journal.has_erred(),
+                    });
+                }
+                if mouth.spent > before {
+                    break 'errors;
+                }
+                if errors > counted {
+                    break;
+                }
             }
         }
     }

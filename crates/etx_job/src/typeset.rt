@@ -3,7 +3,8 @@ ghost use Rattle.std.specs.Prelude.{◌≡◌, ◌≤◌, ◌++◌, ◌⊎◌, �
 ghost use Rattle.etx_outside.specs.Faults.{Rose};
 ghost use Rattle.etx_outside.specs.Entries.{History, files_after, asked_in, said};
 ghost use Rattle.etx_outside.specs.Outside.{outside_of, faults_of, NoneFell};
-ghost use Rattle.etx_job.specs.Meaning.{Meaning, IsMeaning, IsMeaningOfJob, IsEnding, IsRefusal, NoneRose, AtAsk, status_of, start_of, job_asked, usage_line};
+ghost use Rattle.etx_job.specs.Meaning.{Meaning, IsMeaning, IsMeaningOfJob, IsEnding, IsRefusal, NoneRose, AtAsk, status_of, start_of, usage_line};
+ghost use Rattle.etx_job.specs.Words.{job_asked};
 
 use crate::driver::{Ending, run};
 use crate::fault::Fault;
@@ -94,8 +95,9 @@ fn typeset_job<F: Tree, T: Terminal>(
 /// `WriteFault` come only where the count of such faults rose in this call. Only want of memory has no cause here. So
 /// where no count rose, the answer is the meaning's status with its whole history, or `OutOfMemory`.
 ///
-/// The words are `alone` and the name of a file; `.tex` is added to a name without a full stop. The log has the file's
-/// name up to its last full stop, and `.log`. It is created before the file is read, so a file whose own name ends in
+/// The words are `alone`, the name of a file, and at most once `--steps N` or `--steps=N`, before or behind the name: the steps
+/// that the job may take, of one to thirteen decimal digits, from 1 to 2^40; 100000000 where they aren't given. `.tex` is added to
+/// a name without a full stop. The log has the file's name up to its last full stop, and `.log`. It is created before the file is read, so a file whose own name ends in
 /// `.log` is emptied first.
 pub fn typeset_alone<F: Tree, T: Terminal>(
     alloc: Global,

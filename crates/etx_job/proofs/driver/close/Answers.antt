@@ -1,8 +1,5 @@
 use Rattle.etx_job.proofs.driver.close.Goals as goal
 
-pub returns-in-Hundred : goal.returns-in-Hundred
-returns-in-Hundred c = rw c.in-Hundred.is c.close_by.ensures
-
 pub returns-in-Spent : goal.returns-in-Spent
 returns-in-Spent c = rw c.in-Spent.is c.close_by-in-Spent.ensures
 

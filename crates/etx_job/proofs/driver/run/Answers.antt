@@ -30,6 +30,7 @@ steps-init g c =
     ∙ ap (λ (l : List ℕ). record { pen = first_pen; waiting = Create l ∷ [] }) (c.in_ok-name_log.ensures ∙ ap log_name c.name.ensures) in
     record {
       within = let none : c.in_ok-mouth.mouth.spent ≡ 0 = ap (λ (m : Mouth). m.spent) c.in_ok-mouth.ensures in omega arith;
+      few = omega arith;
       asked = c.budget-budget.ensures.value;
       bounded = c.budget-budget.ensures.bounded;
       opened = λ q is. absurd (let no : false ≡ true = subst (λ (j : JournalState). is_among q j.pen.created ≡ true) journal is in cc);
@@ -44,39 +45,54 @@ steps-init g c =
 pub returns-in_err-flush-clause-cut : goal.returns-in_err-flush-clause-cut
 returns-in_err-flush-clause-cut g c = λ a b start files is.
     let after = c.in_ok-end.ensures.going a b start _ files (ap (λ (j : JobState). j.budget) is ∙ sym c.free.invariant.asked) (c.free.invariant.going a b start files is) in
-    cut_over (over_of start _ c.turn.new.mouth _ _ c.in-Some.is after) (c.in_err-flush.ensures.front a b)
+    cut_over (over_of start _ c.turn.new.mouth c.turn.new.errors _ _ c.in-Some.is after) (c.in_err-flush.ensures.front a b)
 
 pub returns-in-Some-clause-whole : goal.returns-in-Some-clause-whole
 returns-in-Some-clause-whole g c = λ a b start files is.
     let after = c.in_ok-end.ensures.going a b start _ files (ap (λ (j : JobState). j.budget) is ∙ sym c.free.invariant.asked) (c.free.invariant.going a b start files is) in
-    settled (over_of start _ c.turn.new.mouth _ _ c.in-Some.is after) (c.in_ok-flush.ensures.ok a b) (c.has_erred.ensures ∙ ap (λ (j : JournalState). j.pen.has_erred) c.in_ok-flush.ensures.journal)
+    settled (over_of start _ c.turn.new.mouth c.turn.new.errors _ _ c.in-Some.is after) (c.in_ok-flush.ensures.ok a b) (c.has_erred.ensures ∙ ap (λ (j : JournalState). j.pen.has_erred) c.in_ok-flush.ensures.journal)
 
 pub returns-in-Some-clause-cut : goal.returns-in-Some-clause-cut
 returns-in-Some-clause-cut g c = λ a b start files is.
     let after = c.in_ok-end.ensures.going a b start _ files (ap (λ (j : JobState). j.budget) is ∙ sym c.free.invariant.asked) (c.free.invariant.going a b start files is) in
-    cut_over (over_of start _ c.turn.new.mouth _ _ c.in-Some.is after) (front_all (c.in_ok-flush.ensures.ok a b))
+    cut_over (over_of start _ c.turn.new.mouth c.turn.new.errors _ _ c.in-Some.is after) (front_all (c.in_ok-flush.ensures.ok a b))
 
 pub free-preserved : goal.free-preserved
 free-preserved g c =
-    let falls = c.in_ok-end.ensures.falls c.in_default.is in
+    let goes = c.in_ok-end.ensures.goes c.in_default.is in
     record {
-      same = omega (arith, falls.1, c.free.invariant.same, c.if-mouth-before.false);
-      within = falls.0;
+      same = omega (arith, goes, c.free.invariant.same, c.if-mouth-before.false);
+      uncounted = omega (arith, goes, c.free.invariant.same, c.free.invariant.uncounted, c.if-mouth-before.false, c.if-errors-counted.false);
+      within = c.in_ok-end.ensures.within c.in_default.is;
+      few = c.in_ok-end.ensures.few c.in_default.is;
       asked = c.free.invariant.asked;
       bounded = c.free.invariant.bounded;
       opened = c.in_ok-end.ensures.opened;
       later = search rules;
-      going = λ a b start files is. going_of start _ c.turn.new.mouth _ _ c.in_default.is (c.in_ok-end.ensures.going a b start _ files (ap (λ (j : JobState). j.budget) is ∙ sym c.free.invariant.asked) (c.free.invariant.going a b start files is));
+      going = λ a b start files is. going_of start _ c.turn.new.mouth c.turn.new.errors _ _ c.in_default.is (c.in_ok-end.ensures.going a b start _ files (ap (λ (j : JobState). j.budget) is ∙ sym c.free.invariant.asked) (c.free.invariant.going a b start files is));
+    }
+
+pub errors-preserved : goal.errors-preserved
+errors-preserved g c =
+    let goes = c.in_ok-end.ensures.goes c.in_default.is in
+    record {
+      same = omega (arith, goes, c.free.invariant.same, c.if-mouth-before.false);
+      within = c.in_ok-end.ensures.within c.in_default.is;
+      few = c.in_ok-end.ensures.few c.in_default.is;
+      asked = c.free.invariant.asked;
+      bounded = c.free.invariant.bounded;
+      opened = c.in_ok-end.ensures.opened;
+      later = search rules;
+      going = λ a b start files is. going_of start _ c.turn.new.mouth c.turn.new.errors _ _ c.in_default.is (c.in_ok-end.ensures.going a b start _ files (ap (λ (j : JobState). j.budget) is ∙ sym c.free.invariant.asked) (c.free.invariant.going a b start files is));
     }
 
 pub steps-preserved : goal.steps-preserved
-steps-preserved g c =
-    let falls = c.in_ok-end.ensures.falls c.in_default.is in
-    record {
-      within = falls.0;
-      asked = c.free.invariant.asked;
-      bounded = c.free.invariant.bounded;
-      opened = c.in_ok-end.ensures.opened;
-      later = search rules;
-      going = λ a b start files is. going_of start _ c.turn.new.mouth _ _ c.in_default.is (c.in_ok-end.ensures.going a b start _ files (ap (λ (j : JobState). j.budget) is ∙ sym c.free.invariant.asked) (c.free.invariant.going a b start files is));
-    }
+steps-preserved g c = record {
+  within = c.in_ok-end.ensures.within c.in_default.is;
+  few = c.in_ok-end.ensures.few c.in_default.is;
+  asked = c.free.invariant.asked;
+  bounded = c.free.invariant.bounded;
+  opened = c.in_ok-end.ensures.opened;
+  later = search rules;
+  going = λ a b start files is. going_of start _ c.turn.new.mouth c.turn.new.errors _ _ c.in_default.is (c.in_ok-end.ensures.going a b start _ files (ap (λ (j : JobState). j.budget) is ∙ sym c.free.invariant.asked) (c.free.invariant.going a b start files is));
+}

@@ -1,4 +1,4 @@
-use Rattle.std.proofs.Common.{◌≡◌, ◌≤◌, ◌-◌, List, ℕ}
+use Rattle.std.proofs.Common.{◌≡◌, ◌<◌, ◌≤◌, ◌-◌, List, ℕ}
 use Rattle.etx_outside.specs.Outside.{outside_of, faults_of, NoneFell}
 use Rattle.etx_settle.specs.Deeds.{AllOpen}
 use Rattle.etx_job.specs.Measure.{weight}
@@ -13,15 +13,35 @@ invariant-steps g l =
     let first = seen l.fn.tree l.fn.terminal in
     record {
       within : l.mouth.spent ≤ l.budget;
+      few : l.errors < 100;
       asked : l.budget ≡ l.fn.job.budget;
       bounded : l.budget ≤ 1099511627776;
       opened : AllOpen (g.F.Tree.is_open l.tree) l.journal.pen.created;
       later : NoneFell (faults l.fn.tree l.fn.terminal) (faults l.tree l.terminal);
-      going : g.F.Tree.tells → g.T.Terminal.tells → (start : Start) → IsFor start first → start.job ≡ l.fn.job → Going start first l.mouth l.journal (seen l.tree l.terminal);
+      going : g.F.Tree.tells → g.T.Terminal.tells → (start : Start) → IsFor start first → start.job ≡ l.fn.job → Going start first l.mouth l.errors l.journal (seen l.tree l.terminal);
     }
 
 abbrev pub decreases-steps : goal.decreases-steps
 decreases-steps g l = l.budget - l.mouth.spent
+
+abbrev pub invariant-errors : goal.invariant-errors
+invariant-errors g l =
+    let seen = outside_of g.F.Tree.files g.F.Tree.asked g.T.Terminal.text in
+    let faults = faults_of g.F.Tree.faults g.T.Terminal.faults in
+    let first = seen l.fn.tree l.fn.terminal in
+    record {
+      same : l.mouth.spent ≡ l.before;
+      within : l.mouth.spent ≤ l.budget;
+      few : l.errors < 100;
+      asked : l.budget ≡ l.fn.job.budget;
+      bounded : l.budget ≤ 1099511627776;
+      opened : AllOpen (g.F.Tree.is_open l.tree) l.journal.pen.created;
+      later : NoneFell (faults l.fn.tree l.fn.terminal) (faults l.tree l.terminal);
+      going : g.F.Tree.tells → g.T.Terminal.tells → (start : Start) → IsFor start first → start.job ≡ l.fn.job → Going start first l.mouth l.errors l.journal (seen l.tree l.terminal);
+    }
+
+abbrev pub decreases-errors : goal.decreases-errors
+decreases-errors g l = 100 - l.errors
 
 abbrev pub invariant-free : goal.invariant-free
 invariant-free g l =
@@ -30,12 +50,14 @@ invariant-free g l =
     let first = seen l.fn.tree l.fn.terminal in
     record {
       same : l.mouth.spent ≡ l.before;
+      uncounted : l.errors ≡ l.counted;
       within : l.mouth.spent ≤ l.budget;
+      few : l.errors < 100;
       asked : l.budget ≡ l.fn.job.budget;
       bounded : l.budget ≤ 1099511627776;
       opened : AllOpen (g.F.Tree.is_open l.tree) l.journal.pen.created;
       later : NoneFell (faults l.fn.tree l.fn.terminal) (faults l.tree l.terminal);
-      going : g.F.Tree.tells → g.T.Terminal.tells → (start : Start) → IsFor start first → start.job ≡ l.fn.job → Going start first l.mouth l.journal (seen l.tree l.terminal);
+      going : g.F.Tree.tells → g.T.Terminal.tells → (start : Start) → IsFor start first → start.job ≡ l.fn.job → Going start first l.mouth l.errors l.journal (seen l.tree l.terminal);
     }
 
 abbrev pub decreases-free : goal.decreases-free

@@ -1,4 +1,4 @@
-use Rattle.std.proofs.Common.{◌≡◌, ◌<◌, ◌≤◌, refl, sym, ◌∙◌, ap, arith, rules, List, ℕ}
+use Rattle.std.proofs.Common.{◌≡◌, ◌<◌, ◌≤◌, refl, sym, ◌∙◌, ap, subst, arith, rules, List, ℕ}
 use Rattle.etx_job.specs.declared.scan.Yield.{Yield}
 use Rattle.etx_job.specs.declared.scan.Yield.TheVariants.{Load}
 use Rattle.etx_job.specs.declared.mouth.Mouth.{Mouth}
@@ -6,7 +6,10 @@ use Rattle.etx_job.specs.Turn.{turn_of, line_number_of}
 use Rattle.etx_outside.proofs.Outsides.{front_all}
 use Rattle.etx_job.specs.Chain.{closing}
 use Rattle.etx_job.specs.Going.{more_waiting}
-use Rattle.etx_job.proofs.Turns.{cut_going, going_flushed, going_is, over_is, asks_is, turn_quiet, turn_act, turn_done, turn_spent, turn_asks}
+use Rattle.etx_job.proofs.Turns.{cut_going, going_is, over_is, asks_is, acts_is, turn_quiet, turn_act, turn_done, turn_spent, turn_asks}
+use Rattle.etx_job.specs.Measure.{Goes}
+use Rattle.etx_job.specs.Turn.{turned}
+use Rattle.etx_job.proofs.Coming.{quiet_on, act_on, load_on}
 use Rattle.etx_job.proofs.driver.turn.Goals as goal
 
 pub returns-then-mouth-budget-clause-going : goal.returns-then-mouth-budget-clause-going
@@ -21,26 +24,23 @@ returns-in-Quiet-clause-going g c = λ a b start first files budget going.
     let within : (turn_of c.args.mouth.now).now.spent ≤ start.job.budget = omega arith in
     going_is (turn_quiet going within (sym c.in_ok-did.ensures.did ∙ c.in-Quiet.is)) c.in_ok-did.ensures.now refl
 
-pub returns-in_err-flush-in-Act-clause-cut : goal.returns-in_err-flush-in-Act-clause-cut
-returns-in_err-flush-in-Act-clause-cut g c = λ a b start first files budget going.
+pub returns-in_err-end-in-Act-clause-cut : goal.returns-in_err-end-in-Act-clause-cut
+returns-in_err-end-in-Act-clause-cut g c = λ a b start first files budget going.
     let spent : c.turn.new.self.spent ≡ (turn_of c.args.mouth.now).now.spent = ap (λ (m : Mouth). m.spent) c.in_ok-did.ensures.now in
     let within : (turn_of c.args.mouth.now).now.spent ≤ start.job.budget = omega arith in
-    let acted = going_is (turn_act going c.in-Act.deed within (sym c.in_ok-did.ensures.did ∙ c.in-Act.is)) c.in_ok-did.ensures.now c.in_ok-push-in-Act.ensures in
-    cut_going acted (c.in_err-flush-in-Act.ensures.front a b)
+    c.in_err-end-in-Act.ensures.cut a b start first _ (acts_is (turn_act going c.in-Act.deed within (sym c.in_ok-did.ensures.did ∙ c.in-Act.is)) c.in_ok-did.ensures.now)
 
-pub returns-in_ok-flush-in-Act-clause-cut : goal.returns-in_ok-flush-in-Act-clause-cut
-returns-in_ok-flush-in-Act-clause-cut g c = λ a b start first files budget going.
+pub returns-in_ok-end-in-Act-clause-cut : goal.returns-in_ok-end-in-Act-clause-cut
+returns-in_ok-end-in-Act-clause-cut g c = λ a b start first files budget going.
     let spent : c.turn.new.self.spent ≡ (turn_of c.args.mouth.now).now.spent = ap (λ (m : Mouth). m.spent) c.in_ok-did.ensures.now in
     let within : (turn_of c.args.mouth.now).now.spent ≤ start.job.budget = omega arith in
-    let acted = going_is (turn_act going c.in-Act.deed within (sym c.in_ok-did.ensures.did ∙ c.in-Act.is)) c.in_ok-did.ensures.now c.in_ok-push-in-Act.ensures in
-    cut_going acted (front_all (c.in_ok-flush-in-Act.ensures.ok a b))
+    c.in_ok-end-in-Act.ensures.cut a b start first _ (acts_is (turn_act going c.in-Act.deed within (sym c.in_ok-did.ensures.did ∙ c.in-Act.is)) c.in_ok-did.ensures.now)
 
-pub returns-in_ok-flush-in-Act-clause-going : goal.returns-in_ok-flush-in-Act-clause-going
-returns-in_ok-flush-in-Act-clause-going g c = λ a b start first files budget going.
+pub returns-in_ok-end-in-Act-clause-going : goal.returns-in_ok-end-in-Act-clause-going
+returns-in_ok-end-in-Act-clause-going g c = λ a b start first files budget going.
     let spent : c.turn.new.self.spent ≡ (turn_of c.args.mouth.now).now.spent = ap (λ (m : Mouth). m.spent) c.in_ok-did.ensures.now in
     let within : (turn_of c.args.mouth.now).now.spent ≤ start.job.budget = omega arith in
-    let acted = going_is (turn_act going c.in-Act.deed within (sym c.in_ok-did.ensures.did ∙ c.in-Act.is)) c.in_ok-did.ensures.now c.in_ok-push-in-Act.ensures in
-    going_is (going_flushed acted (c.in_ok-flush-in-Act.ensures.ok a b)) refl c.in_ok-flush-in-Act.ensures.journal
+    c.in_ok-end-in-Act.ensures.going a b start first _ (acts_is (turn_act going c.in-Act.deed within (sym c.in_ok-did.ensures.did ∙ c.in-Act.is)) c.in_ok-did.ensures.now)
 
 pub returns-in_ok-close-in-Done-clause-going : goal.returns-in_ok-close-in-Done-clause-going
 returns-in_ok-close-in-Done-clause-going g c = λ a b start first files budget going.
@@ -57,6 +57,7 @@ returns-in_err-ask-in-Load-clause-cut g c = λ a b start first files budget goin
     b
     start
     first
+    _
     files
     (asks_is (turn_asks going c.in-Load.name within (sym c.in_ok-did.ensures.did ∙ c.in-Load.is)) c.in_ok-did.ensures.now c.as_slice.ensures.same)
 
@@ -69,6 +70,7 @@ returns-in_ok-ask-in-Load-clause-cut g c = λ a b start first files budget going
     b
     start
     first
+    _
     files
     (asks_is (turn_asks going c.in-Load.name within (sym c.in_ok-did.ensures.did ∙ c.in-Load.is)) c.in_ok-did.ensures.now c.as_slice.ensures.same)
 
@@ -81,6 +83,7 @@ returns-in_ok-ask-in-Load-clause-going g c = λ a b start first files budget goi
     b
     start
     first
+    _
     files
     (asks_is (turn_asks going c.in-Load.name within (sym c.in_ok-did.ensures.did ∙ c.in-Load.is)) c.in_ok-did.ensures.now c.as_slice.ensures.same)
 
@@ -94,4 +97,31 @@ returns-in_err-ask-in-Load-clause-read_at g c = λ fails a b start first budget 
     b
     start
     first
+    _
     (asks_is (turn_asks going c.in-Load.name within (sym c.in_ok-did.ensures.did ∙ c.in-Load.is)) c.in_ok-did.ensures.now c.as_slice.ensures.same)
+
+pub returns-in-Quiet-clause-goes : goal.returns-in-Quiet-clause-goes
+returns-in-Quiet-clause-goes g c = λ _. quiet_on c.args.mouth.now c.turn.new.self c.args.errors.now (subst (λ (y : Yield). Goes c.args.mouth.now (turned c.turn.new.self y)) c.in-Quiet.is c.in_ok-did.ensures.goes)
+
+pub returns-in_ok-end-in-Act-clause-goes : goal.returns-in_ok-end-in-Act-clause-goes
+returns-in_ok-end-in-Act-clause-goes g c = λ _.
+    act_on
+    c.args.mouth.now
+    c.turn.new.self
+    c.args.errors.now
+    c.act.new.errors
+    c.in-Act.deed
+    c.in_ok-end-in-Act.ensures.counted
+    c.in_ok-end-in-Act.ensures.same
+    (subst (λ (y : Yield). Goes c.args.mouth.now (turned c.turn.new.self y)) c.in-Act.is c.in_ok-did.ensures.goes)
+
+pub returns-in_ok-ask-in-Load-clause-goes : goal.returns-in_ok-ask-in-Load-clause-goes
+returns-in_ok-ask-in-Load-clause-goes g c = λ _.
+    load_on
+    c.args.mouth.now
+    c.turn.new.self
+    c.ask.new.mouth
+    c.args.errors.now
+    c.in-Load.name
+    c.in_ok-ask-in-Load.ensures.no_more
+    (subst (λ (y : Yield). Goes c.args.mouth.now (turned c.turn.new.self y)) c.in-Load.is c.in_ok-did.ensures.goes)
