@@ -7,7 +7,7 @@ use Rattle.etx_outside.proofs.Outsides.{front_behind, front_longer}
 use Rattle.etx_settle.specs.Deeds.{JournalState, entries}
 use Rattle.etx_matter.specs.declared.deed.Deed.{Deed}
 use Rattle.etx_matter.specs.declared.end.End.TheVariants.{Hundred}
-use Rattle.etx_job.specs.declared.mouth.Mouth.{Mouth}
+use Rattle.etx_job.specs.Mouths.{MouthState}
 use Rattle.etx_job.specs.Turn.{line_number_of}
 use Rattle.etx_job.specs.Errors.{is_error, most_errors}
 use Rattle.etx_job.specs.Chain.{Start, World, closing, ended, with_error, unless_last, counted, chain}
@@ -30,7 +30,7 @@ counted_grows true w = by (nat_lt (w.errors + 1) most_errors)
     by true = record { more = []; is = sym (append-nil w.trace) }
     by false = record { more = entries w.pen (closing Hundred (line_number_of w.mouth)); is = refl }
 
-module _ {start : Start} {first now : Outside} {mouth : Mouth} {errors : ℕ} {journal : JournalState} {deed : Deed} (a : Acts start first mouth errors journal deed now) {waits : JournalState} (same : waits ≡ more_waiting journal (deed ∷ [])) where
+module _ {start : Start} {first now : Outside} {mouth : MouthState} {errors : ℕ} {journal : JournalState} {deed : Deed} (a : Acts start first mouth errors journal deed now) {waits : JournalState} (same : waits ≡ more_waiting journal (deed ∷ [])) where
   -- the deed waits
   abbrev here : World
   here = world_of mouth errors waits a.done None

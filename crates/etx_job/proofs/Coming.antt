@@ -2,39 +2,39 @@
 use Rattle.std.proofs.Common.{◌≡◌, ◌⊎◌, inl, inr, ℕ, ◌<◌, ◌≤◌, Bool, true, false, List, refl, sym, ◌∙◌, arith}
 use Rattle.std.proofs.lemmas.Bool.{cases_lt}
 use Rattle.etx_matter.specs.declared.deed.Deed.{Deed}
-use Rattle.etx_job.specs.declared.mouth.Mouth.{Mouth}
-use Rattle.etx_job.specs.declared.scan.Yield.TheVariants.{Quiet, Act, Load}
+use Rattle.etx_job.specs.Mouths.{MouthState}
+use Rattle.etx_job.specs.declared.yields.Yield.TheVariants.{Quiet, Act, Load}
 use Rattle.etx_job.specs.Turn.{turned}
 use Rattle.etx_job.specs.Errors.{is_error}
 use Rattle.etx_job.specs.Measure.{Falls, Goes, GoesOn, IsNoMore, weight}
 
-falls_on : (old new : Mouth) (e : ℕ) → Falls old new → GoesOn old e new e
+falls_on : (old new : MouthState) (e : ℕ) → Falls old new → GoesOn old e new e
 falls_on old new e f = elim f [ inl more ↦ inl more | inr less ↦ inr (inr (less.0, refl, less.1)) ]
 
-pub quiet_on : (old new : Mouth) (e : ℕ) → Goes old (turned new Quiet) → GoesOn old e new e
+pub quiet_on : (old new : MouthState) (e : ℕ) → Goes old (turned new Quiet) → GoesOn old e new e
 quiet_on old new e goes = elim goes [ inl never ↦ absurd never | inr on ↦ elim on [ inl never ↦ absurd never.0 | inr f ↦ falls_on old new e f ] ]
 
 -- an error is counted, and no step was given back
-error_on : (old new : Mouth) (e f : ℕ) → old.spent ≤ new.spent → e < f → GoesOn old e new f
-error_on old new e f le more = elim (cases_lt old.spent new.spent) [ inl lt ↦ inl lt | inr ge ↦ inr (inl (omega (arith, le, ge), more)) ]
+error_on : (old new : MouthState) (e f : ℕ) → old.machine.spent ≤ new.machine.spent → e < f → GoesOn old e new f
+error_on old new e f le more = elim (cases_lt old.machine.spent new.machine.spent) [ inl lt ↦ inl lt | inr ge ↦ inr (inl (omega (arith, le, ge), more)) ]
 
-falls_to : (old new : Mouth) (e f : ℕ) (b : Bool) → (b ≡ true → e < f) → (b ≡ false → f ≡ e) → Falls old new → GoesOn old e new f
+falls_to : (old new : MouthState) (e f : ℕ) (b : Bool) → (b ≡ true → e < f) → (b ≡ false → f ≡ e) → Falls old new → GoesOn old e new f
 falls_to old new e f true more same falls = elim falls [ inl lt ↦ inl lt | inr less ↦ inr (inl (less.0, more refl)) ]
 falls_to old new e f false more same falls = elim falls [ inl lt ↦ inl lt | inr less ↦ inr (inr (less.0, same refl, less.1)) ]
 
-pub act_on : (old new : Mouth) (e f : ℕ) (d : Deed) → (is_error d ≡ true → e < f) → (is_error d ≡ false → f ≡ e) → Goes old (turned new (Act d)) → GoesOn old e new f
+pub act_on : (old new : MouthState) (e f : ℕ) (d : Deed) → (is_error d ≡ true → e < f) → (is_error d ≡ false → f ≡ e) → Goes old (turned new (Act d)) → GoesOn old e new f
 act_on old new e f d more same goes = elim goes [
   | inl never ↦ absurd never
   | inr on ↦ elim on [ inl errs ↦ error_on old new e f errs.1 (more errs.0) | inr falls ↦ falls_to old new e f (is_error d) more same falls ]
 ]
 
-falls_no_more : (old mid new : Mouth) → IsNoMore mid new → Falls old mid → Falls old new
+falls_no_more : (old mid new : MouthState) → IsNoMore mid new → Falls old mid → Falls old new
 falls_no_more old mid new same f = elim f [
   | inl more ↦ inl (omega (arith, same.spent, more))
   | inr less ↦ inr (omega (arith, same.spent, less.0), omega (arith, same.weight, less.1))
 ]
 
-pub load_on : (old mid new : Mouth) (e : ℕ) (name : List ℕ) → IsNoMore mid new → Goes old (turned mid (Load name)) → GoesOn old e new e
+pub load_on : (old mid new : MouthState) (e : ℕ) (name : List ℕ) → IsNoMore mid new → Goes old (turned mid (Load name)) → GoesOn old e new e
 load_on old mid new e name same goes = elim goes [
   | inl never ↦ absurd never
   | inr on ↦ elim on [ inl never ↦ absurd never.0 | inr f ↦ falls_on old new e (falls_no_more old mid new same f) ]

@@ -11,9 +11,9 @@ use Rattle.etx_matter.specs.declared.deed.Deed.TheVariants.{Create}
 use Rattle.etx_matter.specs.declared.deed.Deed.{Deed}
 use Rattle.etx_matter.specs.declared.end.End.{End}
 use Rattle.etx_matter.specs.declared.end.End.TheVariants.{Hundred, Spent}
-use Rattle.etx_job.specs.declared.mouth.Mouth.{Mouth}
-use Rattle.etx_job.specs.declared.scan.Yield.{Yield}
-use Rattle.etx_job.specs.declared.scan.Yield.TheVariants.{Quiet, Act, Load, Done}
+use Rattle.etx_job.specs.Mouths.{MouthState}
+use Rattle.etx_job.specs.declared.yields.Yield.{Yield}
+use Rattle.etx_job.specs.declared.yields.Yield.TheVariants.{Quiet, Act, Load, Done}
 use Rattle.etx_job.specs.Turn.{turned, turn_of, resumed, first_mouth, line_number_of}
 use Rattle.etx_job.specs.Errors.{is_error}
 use Rattle.etx_job.specs.Measure.{weight, Goes, GoesOn, IsNoMore}
@@ -28,7 +28,7 @@ use Rattle.etx_job.proofs.Turns.{lt_true, lt_false}
 pub cut_nothing : (start : Start) (first : Outside) → Cut start first first
 cut_nothing start first = record { turns = 0; front = front_none _ refl }
 
-pub going_starts : (start : Start) (first : Outside) {mouth : Mouth} {journal : JournalState}
+pub going_starts : (start : Start) (first : Outside) {mouth : MouthState} {journal : JournalState}
     → mouth ≡ first_mouth start.job.name
     → journal ≡ record { pen = first_pen; waiting = Create (log_name start.job.name) ∷ [] }
     → Going start first mouth 0 journal first
@@ -67,7 +67,7 @@ module _ (start : Start) where
   step_grows w = go w.end
     where
       open_grows : Grows w (step_open start w)
-      open_grows = by (nat_lt start.job.budget (turn_of w.mouth).now.spent)
+      open_grows = by (nat_lt start.job.budget (turn_of w.mouth).now.machine.spent)
         where
           by : (b : Bool) → Grows w (cond b (ended Spent w) (handled start (turned_on w) (turn_of w.mouth).did))
           by true = record { more = entries w.pen (closing Spent (line_number_of w.mouth)); is = refl }
@@ -131,14 +131,14 @@ module _ (start : Start) where
 
   -- the budget isn't passed, and errors are few
   abbrev Within : World → Type 0
-  Within w = (w.mouth.spent ≤ start.job.budget) × (w.errors < 100)
+  Within w = (w.mouth.machine.spent ≤ start.job.budget) × (w.errors < 100)
 
   -- a step ends the job, or goes on from a mouth and a count of errors
-  abbrev Going_on : Mouth → ℕ → World → Type 0
+  abbrev Going_on : MouthState → ℕ → World → Type 0
   Going_on old e w = IsSome w.end ⊎ (Within w × GoesOn old e w.mouth w.errors)
 
   -- a deed that is an error is counted
-  counted_goes : (old : Mouth) (w : World) (d : Deed) (b : Bool) → is_error d ≡ b → Within w → Goes old (turned w.mouth (Act d)) → Going_on old w.errors (counted b w)
+  counted_goes : (old : MouthState) (w : World) (d : Deed) (b : Bool) → is_error d ≡ b → Within w → Goes old (turned w.mouth (Act d)) → Going_on old w.errors (counted b w)
   counted_goes old w d false is within goes = inr (within, act_on old w.mouth w.errors w.errors d (λ was. let no : true ≡ false = sym was ∙ is in cc) (λ was. refl) goes)
   counted_goes old w d true is within goes = elim (cases_lt (w.errors + 1) 100) [
     | inl lt ↦
@@ -149,7 +149,7 @@ module _ (start : Start) where
     | inr ge ↦ subst (λ b. Going_on old w.errors (cond b (with_error w) (ended Hundred (with_error w)))) (sym (lt_false (w.errors + 1) 100 ge)) (inl refl)
   ]
 
-  handled_goes : (old : Mouth) (w : World) (y : Yield) → Within w → Goes old (turned w.mouth y) → Going_on old w.errors (handled start w y)
+  handled_goes : (old : MouthState) (w : World) (y : Yield) → Within w → Goes old (turned w.mouth y) → Going_on old w.errors (handled start w y)
   handled_goes old w Quiet within goes = inr (within, quiet_on old w.mouth w.errors goes)
   handled_goes old w (Act d) within goes = counted_goes old (with_deeds (d ∷ []) w) d (is_error d) refl within goes
   handled_goes old w (Load name) within goes =
@@ -160,16 +160,16 @@ module _ (start : Start) where
 
   step_goes : (w : World) → w.end ≡ None → w.errors < 100 → Going_on w.mouth w.errors (step start w)
   unfolding step
-  step_goes w none few = subst (λ (o : Option End). Going_on w.mouth w.errors (step_from start w o)) (sym none) (elim (cases_lt start.job.budget (turn_of w.mouth).now.spent) [
+  step_goes w none few = subst (λ (o : Option End). Going_on w.mouth w.errors (step_from start w o)) (sym none) (elim (cases_lt start.job.budget (turn_of w.mouth).now.machine.spent) [
     | inl lt ↦
         subst
         (λ b. Going_on w.mouth w.errors (cond b (ended Spent w) (handled start (turned_on w) (turn_of w.mouth).did)))
-        (sym (lt_true start.job.budget (turn_of w.mouth).now.spent lt))
+        (sym (lt_true start.job.budget (turn_of w.mouth).now.machine.spent lt))
         (inl refl)
     | inr ge ↦
         subst
         (λ b. Going_on w.mouth w.errors (cond b (ended Spent w) (handled start (turned_on w) (turn_of w.mouth).did)))
-        (sym (lt_false start.job.budget (turn_of w.mouth).now.spent ge))
+        (sym (lt_false start.job.budget (turn_of w.mouth).now.machine.spent ge))
         (handled_goes w.mouth (turned_on w) (turn_of w.mouth).did (ge, few) (turn_goes w.mouth))
   ])
 
@@ -189,7 +189,7 @@ module _ (start : Start) where
   ]
 
   -- turns that take no step and report no error come to one that does, or to an end
-  free_ends : (s e : ℕ) → ((m : ℕ) → s < (chain start m).mouth.spent → Within (chain start m) → Last) → ((m : ℕ) → (chain start m).mouth.spent ≡ s → e < (chain start m).errors → Within (chain start m) → Last) → (i n : ℕ) → (chain start n).mouth.spent ≡ s → (chain start n).errors ≡ e → weight (chain start n).mouth ≤ i → Within (chain start n) → Last
+  free_ends : (s e : ℕ) → ((m : ℕ) → s < (chain start m).mouth.machine.spent → Within (chain start m) → Last) → ((m : ℕ) → (chain start m).mouth.machine.spent ≡ s → e < (chain start m).errors → Within (chain start m) → Last) → (i n : ℕ) → (chain start n).mouth.machine.spent ≡ s → (chain start n).errors ≡ e → weight (chain start n).mouth ≤ i → Within (chain start n) → Last
   free_ends s e stepped erred zero n same few light within = elim (next_goes n within) [
     | inl last ↦ last
     | inr on ↦ elim on.1 [
@@ -212,7 +212,7 @@ module _ (start : Start) where
   ]
 
   -- turns that take no step come to one that does, or to an end: errors are few
-  errors_end : (s : ℕ) → ((m : ℕ) → s < (chain start m).mouth.spent → Within (chain start m) → Last) → (k n : ℕ) → (chain start n).mouth.spent ≡ s → 100 ≤ (chain start n).errors + k → Within (chain start n) → Last
+  errors_end : (s : ℕ) → ((m : ℕ) → s < (chain start m).mouth.machine.spent → Within (chain start m) → Last) → (k n : ℕ) → (chain start n).mouth.machine.spent ≡ s → 100 ≤ (chain start n).errors + k → Within (chain start n) → Last
   errors_end s stepped zero n same near within = absurd (omega (arith, near, within.1))
   errors_end s stepped (suc k) n same near within =
       free_ends
@@ -227,9 +227,9 @@ module _ (start : Start) where
       (omega arith)
       within
 
-  ends_from : (k n : ℕ) → start.job.budget ≤ (chain start n).mouth.spent + k → Within (chain start n) → Last
-  ends_from zero n near within = errors_end (chain start n).mouth.spent (λ m more fine. absurd (omega (arith, near, more, fine.0))) 100 n refl (omega arith) within
-  ends_from (suc k) n near within = errors_end (chain start n).mouth.spent (λ m more fine. ends_from k m (omega (arith, near, more)) fine) 100 n refl (omega arith) within
+  ends_from : (k n : ℕ) → start.job.budget ≤ (chain start n).mouth.machine.spent + k → Within (chain start n) → Last
+  ends_from zero n near within = errors_end (chain start n).mouth.machine.spent (λ m more fine. absurd (omega (arith, near, more, fine.0))) 100 n refl (omega arith) within
+  ends_from (suc k) n near within = errors_end (chain start n).mouth.machine.spent (λ m more fine. ends_from k m (omega (arith, near, more)) fine) 100 n refl (omega arith) within
 
   first_within : Within (chain start 0)
   unfolding chain opening first_mouth

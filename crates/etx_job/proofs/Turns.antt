@@ -12,9 +12,9 @@ use Rattle.etx_settle.proofs.Deeds.{entries-append, pen_after_all-append}
 use Rattle.etx_matter.specs.declared.deed.Deed.{Deed}
 use Rattle.etx_matter.specs.declared.end.End.{End}
 use Rattle.etx_matter.specs.declared.end.End.TheVariants.{Spent}
-use Rattle.etx_job.specs.declared.mouth.Mouth.{Mouth}
-use Rattle.etx_job.specs.declared.scan.Yield.{Yield}
-use Rattle.etx_job.specs.declared.scan.Yield.TheVariants.{Quiet, Act, Load, Done}
+use Rattle.etx_job.specs.Mouths.{MouthState}
+use Rattle.etx_job.specs.declared.yields.Yield.{Yield}
+use Rattle.etx_job.specs.declared.yields.Yield.TheVariants.{Quiet, Act, Load, Done}
 use Rattle.etx_job.specs.Turn.{turn_of, resumed, line_number_of}
 use Rattle.etx_job.specs.Chain.{Start, World, with_deeds, closing, ended, handled, step_open, step, chain}
 use Rattle.etx_job.specs.Going.{more_waiting, world_of, IsFor, Going, Over, AfterTurn, Asks, Acts, Cut}
@@ -24,7 +24,7 @@ abbrev pub flushed : JournalState → JournalState
 flushed journal = record { pen = pen_after_all journal.pen journal.waiting; waiting = [] }
 
 -- deeds that wait are deeds of the world
-pub waiting_more : (mouth : Mouth) (errors : ℕ) (journal : JournalState) (done : History) (end : Option End) (ds : List Deed)
+pub waiting_more : (mouth : MouthState) (errors : ℕ) (journal : JournalState) (done : History) (end : Option End) (ds : List Deed)
     → record (with_deeds ds (world_of mouth errors journal done None)) { end = end } ≡ world_of mouth errors (more_waiting journal ds) done end
 waiting_more mouth errors journal done end ds =
     let pen = sym (pen_after_all-append journal.pen journal.waiting ds) in
@@ -37,7 +37,7 @@ lt_true a b h = grind (arith, nat_tests)
 pub lt_false : (a b : ℕ) → b ≤ a → nat_lt a b ≡ false
 lt_false a b h = grind (arith, nat_tests)
 
-module _ {start : Start} {first now : Outside} {mouth : Mouth} {errors : ℕ} {journal : JournalState} (g : Going start first mouth errors journal now) where
+module _ {start : Start} {first now : Outside} {mouth : MouthState} {errors : ℕ} {journal : JournalState} (g : Going start first mouth errors journal now) where
   abbrev here : World
   here = world_of mouth errors journal g.done None
 
@@ -48,22 +48,22 @@ module _ {start : Start} {first now : Outside} {mouth : Mouth} {errors : ℕ} {j
   unfolding chain step
   next_world = ap (step start) g.at
 
-  within : (turn_of mouth).now.spent ≤ start.job.budget → chain start (suc g.turns) ≡ handled start there (turn_of mouth).did
-  within le = next_world ∙ ap (λ b. cond b (ended Spent here) (handled start there (turn_of mouth).did)) (lt_false start.job.budget (turn_of mouth).now.spent le)
+  within : (turn_of mouth).now.machine.spent ≤ start.job.budget → chain start (suc g.turns) ≡ handled start there (turn_of mouth).did
+  within le = next_world ∙ ap (λ b. cond b (ended Spent here) (handled start there (turn_of mouth).did)) (lt_false start.job.budget (turn_of mouth).now.machine.spent le)
 
-  beyond : start.job.budget < (turn_of mouth).now.spent → chain start (suc g.turns) ≡ ended Spent here
-  beyond lt = next_world ∙ ap (λ b. cond b (ended Spent here) (handled start there (turn_of mouth).did)) (lt_true start.job.budget (turn_of mouth).now.spent lt)
+  beyond : start.job.budget < (turn_of mouth).now.machine.spent → chain start (suc g.turns) ≡ ended Spent here
+  beyond lt = next_world ∙ ap (λ b. cond b (ended Spent here) (handled start there (turn_of mouth).did)) (lt_true start.job.budget (turn_of mouth).now.machine.spent lt)
 
-  yields : (y : Yield) → (turn_of mouth).now.spent ≤ start.job.budget → (turn_of mouth).did ≡ y → chain start (suc g.turns) ≡ handled start there y
+  yields : (y : Yield) → (turn_of mouth).now.machine.spent ≤ start.job.budget → (turn_of mouth).did ≡ y → chain start (suc g.turns) ≡ handled start there y
   yields y le is = within le ∙ ap (handled start there) is
 
-  pub turn_quiet : (turn_of mouth).now.spent ≤ start.job.budget → (turn_of mouth).did ≡ Quiet → Going start first (turn_of mouth).now errors journal now
+  pub turn_quiet : (turn_of mouth).now.machine.spent ≤ start.job.budget → (turn_of mouth).did ≡ Quiet → Going start first (turn_of mouth).now errors journal now
   turn_quiet lt is = record { turns = suc g.turns; done = g.done; at = yields Quiet lt is; now_is = g.now_is }
 
-  pub turn_act : (d : Deed) → (turn_of mouth).now.spent ≤ start.job.budget → (turn_of mouth).did ≡ Act d → Acts start first (turn_of mouth).now errors journal d now
+  pub turn_act : (d : Deed) → (turn_of mouth).now.machine.spent ≤ start.job.budget → (turn_of mouth).did ≡ Act d → Acts start first (turn_of mouth).now errors journal d now
   turn_act d lt is = record { turns = g.turns; done = g.done; next = yields (Act d) lt is; now_is = g.now_is }
 
-  pub turn_done : (e : End) → (turn_of mouth).now.spent ≤ start.job.budget → (turn_of mouth).did ≡ Done e → Over start first (more_waiting journal (closing e (line_number_of (turn_of mouth).now))) e now
+  pub turn_done : (e : End) → (turn_of mouth).now.machine.spent ≤ start.job.budget → (turn_of mouth).did ≡ Done e → Over start first (more_waiting journal (closing e (line_number_of (turn_of mouth).now))) e now
   turn_done e lt is = record {
     turns = suc g.turns;
     mouth = (turn_of mouth).now;
@@ -73,7 +73,7 @@ module _ {start : Start} {first now : Outside} {mouth : Mouth} {errors : ℕ} {j
     now_is = g.now_is;
   }
 
-  pub turn_spent : start.job.budget < (turn_of mouth).now.spent → Over start first (more_waiting journal (closing Spent 0)) Spent now
+  pub turn_spent : start.job.budget < (turn_of mouth).now.machine.spent → Over start first (more_waiting journal (closing Spent 0)) Spent now
   turn_spent le = record {
     turns = suc g.turns;
     mouth = mouth;
@@ -83,7 +83,7 @@ module _ {start : Start} {first now : Outside} {mouth : Mouth} {errors : ℕ} {j
     now_is = g.now_is;
   }
 
-  pub turn_asks : (name : List ℕ) → (turn_of mouth).now.spent ≤ start.job.budget → (turn_of mouth).did ≡ Load name → Asks start first (turn_of mouth).now errors journal name now
+  pub turn_asks : (name : List ℕ) → (turn_of mouth).now.machine.spent ≤ start.job.budget → (turn_of mouth).did ≡ Load name → Asks start first (turn_of mouth).now errors journal name now
   turn_asks name lt is = record {
     turns = g.turns;
     done = g.done;
@@ -93,7 +93,7 @@ module _ {start : Start} {first now : Outside} {mouth : Mouth} {errors : ℕ} {j
   }
 
 -- what waits was written, and belongs to what came before
-pub world_flushed : (mouth : Mouth) (errors : ℕ) (journal : JournalState) (done : History) (end : Option End)
+pub world_flushed : (mouth : MouthState) (errors : ℕ) (journal : JournalState) (done : History) (end : Option End)
     → world_of mouth errors journal done end ≡ world_of mouth errors (flushed journal) (done ++ entries journal.pen journal.waiting) end
 world_flushed mouth errors journal done end = λ i. record {
   mouth = mouth;
@@ -106,7 +106,7 @@ world_flushed mouth errors journal done end = λ i. record {
 pub now_flushed : (first : Outside) {now new : Outside} (journal : JournalState) (done : History) → now ≡ after done first → new ≡ after (entries journal.pen journal.waiting) now → new ≡ after (done ++ entries journal.pen journal.waiting) first
 now_flushed first journal done now_is wrote = wrote ∙ ap (after (entries journal.pen journal.waiting)) now_is ∙ sym (after-append done (entries journal.pen journal.waiting) first)
 
-pub going_flushed : {start : Start} {first now new : Outside} {mouth : Mouth} {errors : ℕ} {journal : JournalState} → Going start first mouth errors journal now → new ≡ after (entries journal.pen journal.waiting) now → Going start first mouth errors (flushed journal) new
+pub going_flushed : {start : Start} {first now new : Outside} {mouth : MouthState} {errors : ℕ} {journal : JournalState} → Going start first mouth errors journal now → new ≡ after (entries journal.pen journal.waiting) now → Going start first mouth errors (flushed journal) new
 going_flushed {start} {first} {now} {new} {mouth} {errors} {journal} g wrote = record {
   turns = g.turns;
   done = g.done ++ entries journal.pen journal.waiting;
@@ -115,7 +115,7 @@ going_flushed {start} {first} {now} {new} {mouth} {errors} {journal} g wrote = r
 }
 
 -- the same, of a mouth, a count and a journal that are equal
-pub going_is : {start : Start} {first now : Outside} {mouth mouth' : Mouth} {errors : ℕ} {journal journal' : JournalState} → Going start first mouth errors journal now → mouth' ≡ mouth → journal' ≡ journal → Going start first mouth' errors journal' now
+pub going_is : {start : Start} {first now : Outside} {mouth mouth' : MouthState} {errors : ℕ} {journal journal' : JournalState} → Going start first mouth errors journal now → mouth' ≡ mouth → journal' ≡ journal → Going start first mouth' errors journal' now
 going_is {errors = errors} g same_mouth same_journal = record {
   turns = g.turns;
   done = g.done;
@@ -133,7 +133,7 @@ over_is {e = e} o same = record {
   now_is = o.now_is;
 }
 
-pub asks_is : {start : Start} {first now : Outside} {mouth mouth' : Mouth} {errors : ℕ} {journal : JournalState} {name name' : List ℕ} → Asks start first mouth errors journal name now → mouth' ≡ mouth → name' ≡ name → Asks start first mouth' errors journal name' now
+pub asks_is : {start : Start} {first now : Outside} {mouth mouth' : MouthState} {errors : ℕ} {journal : JournalState} {name name' : List ℕ} → Asks start first mouth errors journal name now → mouth' ≡ mouth → name' ≡ name → Asks start first mouth' errors journal name' now
 asks_is {start = start} {errors = errors} {journal = journal} a same_mouth same_name = record {
   turns = a.turns;
   done = a.done;
@@ -142,7 +142,7 @@ asks_is {start = start} {errors = errors} {journal = journal} a same_mouth same_
   at = a.at;
 }
 
-pub acts_is : {start : Start} {first now : Outside} {mouth mouth' : Mouth} {errors : ℕ} {journal : JournalState} {d : Deed} → Acts start first mouth errors journal d now → mouth' ≡ mouth → Acts start first mouth' errors journal d now
+pub acts_is : {start : Start} {first now : Outside} {mouth mouth' : MouthState} {errors : ℕ} {journal : JournalState} {d : Deed} → Acts start first mouth errors journal d now → mouth' ≡ mouth → Acts start first mouth' errors journal d now
 acts_is {start = start} {errors = errors} {journal = journal} {d = d} a same_mouth = record {
   turns = a.turns;
   done = a.done;
@@ -151,7 +151,7 @@ acts_is {start = start} {errors = errors} {journal = journal} {d = d} a same_mou
 }
 
 -- a front of what waits was written
-pub cut_going : {start : Start} {first now new : Outside} {mouth : Mouth} {errors : ℕ} {journal : JournalState} → Going start first mouth errors journal now → Front (entries journal.pen journal.waiting) now new → Cut start first new
+pub cut_going : {start : Start} {first now new : Outside} {mouth : MouthState} {errors : ℕ} {journal : JournalState} → Going start first mouth errors journal now → Front (entries journal.pen journal.waiting) now new → Cut start first new
 cut_going {start} {first} {now} {new} g f = record {
   turns = g.turns;
   front = subst (λ (w : World). Front w.trace first new) (sym g.at) (front_behind g.done g.now_is f);
@@ -164,17 +164,17 @@ cut_over {start} {first} {now} {new} o f = record {
 }
 
 -- what stands after a turn, where it is known whether the turn ended the job
-pub over_of : (start : Start) (first : Outside) (mouth : Mouth) (errors : ℕ) (journal : JournalState) (now : Outside) {o : Option End} {e : End} → o ≡ Some e → AfterTurn o start first mouth errors journal now → Over start first journal e now
+pub over_of : (start : Start) (first : Outside) (mouth : MouthState) (errors : ℕ) (journal : JournalState) (now : Outside) {o : Option End} {e : End} → o ≡ Some e → AfterTurn o start first mouth errors journal now → Over start first journal e now
 over_of start first mouth errors journal now is after = subst (λ (o : Option End). AfterTurn o start first mouth errors journal now) is after
 
-pub going_of : (start : Start) (first : Outside) (mouth : Mouth) (errors : ℕ) (journal : JournalState) (now : Outside) {o : Option End} → o ≡ None → AfterTurn o start first mouth errors journal now → Going start first mouth errors journal now
+pub going_of : (start : Start) (first : Outside) (mouth : MouthState) (errors : ℕ) (journal : JournalState) (now : Outside) {o : Option End} → o ≡ None → AfterTurn o start first mouth errors journal now → Going start first mouth errors journal now
 going_of start first mouth errors journal now is after = subst (λ (o : Option End). AfterTurn o start first mouth errors journal now) is after
 
 -- nothing more was written
-pub cut_here : {start : Start} {first now : Outside} {mouth : Mouth} {errors : ℕ} {journal : JournalState} → Going start first mouth errors journal now → Cut start first now
+pub cut_here : {start : Start} {first now : Outside} {mouth : MouthState} {errors : ℕ} {journal : JournalState} → Going start first mouth errors journal now → Cut start first now
 cut_here g = cut_going g (front_none _ refl)
 
-module _ {start : Start} {first now : Outside} {mouth : Mouth} {errors : ℕ} {journal : JournalState} {name : List ℕ} (a : Asks start first mouth errors journal name now) where
+module _ {start : Start} {first now : Outside} {mouth : MouthState} {errors : ℕ} {journal : JournalState} {name : List ℕ} (a : Asks start first mouth errors journal name now) where
   pub cut_flush : {new : Outside} → Front (entries journal.pen journal.waiting) now new → Cut start first new
   cut_flush {new} f = record { turns = a.turns; front = subst (λ (h : History). Front h first new) (sym a.at) (front_behind a.done a.now_is f) }
 

@@ -12,9 +12,9 @@ use Rattle.etx_matter.specs.declared.end.Limit.{Limit}
 use Rattle.etx_matter.specs.declared.end.End.{End}
 use Rattle.etx_matter.specs.declared.end.End.TheVariants.{Ended, Fatal, Hundred, Capacity, Spent, Unbuilt}
 use Rattle.etx_matter.specs.Jobs.{JobState}
-use Rattle.etx_job.specs.declared.mouth.Mouth.{Mouth}
-use Rattle.etx_job.specs.declared.scan.Yield.{Yield}
-use Rattle.etx_job.specs.declared.scan.Yield.TheVariants.{Quiet, Act, Load, Done}
+use Rattle.etx_job.specs.Mouths.{MouthState}
+use Rattle.etx_job.specs.declared.yields.Yield.{Yield}
+use Rattle.etx_job.specs.declared.yields.Yield.TheVariants.{Quiet, Act, Load, Done}
 use Rattle.etx_job.specs.Errors.{is_error, most_errors}
 use Rattle.etx_job.specs.Turn.{turn_of, resumed, first_mouth, line_number_of}
 use Rattle.etx_job.specs.Words.{log_name}
@@ -27,7 +27,7 @@ pub record Start : Type 0 where
 -- a job between two steps: its mouth, the errors since the last paragraph ended, the pen, all that it has done to the outside,
 -- and its end, if it has ended
 pub record World : Type 0 where
-  pub mouth : Mouth
+  pub mouth : MouthState
   pub errors : ℕ
   pub pen : PenState
   pub trace : History
@@ -103,7 +103,7 @@ turned_on w = record w { mouth = (turn_of w.mouth).now }
 
 -- a turn that would pass the budget is not made
 abbrev pub step_open : Start → World → World
-step_open start w = if nat_lt start.job.budget (turn_of w.mouth).now.spent then ended Spent w else handled start (turned_on w) (turn_of w.mouth).did
+step_open start w = if nat_lt start.job.budget (turn_of w.mouth).now.machine.spent then ended Spent w else handled start (turned_on w) (turn_of w.mouth).did
 
 abbrev pub step_from : Start → World → Option End → World
 step_from start w None = step_open start w

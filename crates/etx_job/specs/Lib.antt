@@ -1,12 +1,11 @@
-pub mod Categories
 pub mod Chain
+pub mod Commands
 pub mod Errors
 pub mod Fault
 pub mod Going
+pub mod Machine
 pub mod Meaning
 pub mod Measure
-pub mod Messages
-pub mod Printing
-pub mod Rows
+pub mod Mouths
 pub mod Turn
 pub mod Words

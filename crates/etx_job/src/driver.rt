@@ -7,6 +7,7 @@ ghost use Rattle.etx_outside.specs.Loading.{load_of};
 ghost use Rattle.etx_outside.specs.Outside.{Outside, outside_of, after, Front, Faults, faults_of, NoneFell, WriteRose};
 ghost use Rattle.etx_settle.specs.Deeds.{JournalState, AllOpen, first_pen};
 ghost use Rattle.etx_job.specs.Errors.{is_error};
+ghost use Rattle.etx_job.specs.Mouths.{MouthState};
 ghost use Rattle.etx_job.specs.Measure.{GoesOn, IsNoMore};
 ghost use Rattle.etx_job.specs.Words.{log_name};
 ghost use Rattle.etx_job.specs.Chain.{Start, printed, last_line, closing_by, reason_of, closing_fatally, full_text, closing_full, closing};
@@ -15,8 +16,8 @@ ghost use Rattle.etx_job.specs.Going.{more_waiting, IsFor, Going, AfterTurn, Ask
 
 use crate::fault::Fault;
 use crate::mouth::Mouth;
-use crate::scan::Yield;
 use crate::words::name_log;
+use crate::yields::Yield;
 use etx_lists::Bytes;
 use etx_matter::{Audience, Deed, End, FatalError, Job, Limit};
 use etx_outside::{Loaded, Terminal, Tree, TreeFault};
@@ -156,10 +157,10 @@ fn act<F: Tree, T: Terminal>(
 ) -> Result<Option<End>, FlushFault>
     requires open { AllOpen (F.is_open tree.old) journal.old.pen.created }
     requires few { errors.old < 100 }
-    ensures going { IfOk result (λ end. F.tells → T.tells → (start : Start) (first : Outside) (mouth : Mouth) →
+    ensures going { IfOk result (λ end. F.tells → T.tells → (start : Start) (first : Outside) (mouth : MouthState) →
         Acts start first mouth errors.old journal.old deed (outside_of F.files F.asked T.text tree.old terminal.old)
         → AfterTurn end start first mouth errors.new journal.new (outside_of F.files F.asked T.text tree.new terminal.new)) }
-    ensures cut { F.tells → T.tells → (start : Start) (first : Outside) (mouth : Mouth) →
+    ensures cut { F.tells → T.tells → (start : Start) (first : Outside) (mouth : MouthState) →
         Acts start first mouth errors.old journal.old deed (outside_of F.files F.asked T.text tree.old terminal.old)
         → Cut start first (outside_of F.files F.asked T.text tree.new terminal.new) }
     ensures opened { OnOk result (AllOpen (F.is_open tree.new) journal.new.pen.created) }
@@ -236,7 +237,7 @@ fn ask<F: Tree, T: Terminal>(
         Err(TreeFault::Failed) => return Err(Fault::ReadFault),
         Err(TreeFault::OutOfMemory) => return Err(Fault::OutOfMemory),
     };
-    mouth.resume(alloc, loaded)?;
+    mouth.resume(loaded)?;
     Ok(())
 }
 
@@ -251,7 +252,7 @@ fn turn<F: Tree, T: Terminal>(
     terminal: &mut T,
 ) -> Result<Option<End>, Fault>
     requires open { AllOpen (F.is_open tree.old) journal.old.pen.created }
-    requires room { mouth.old.spent + 2 < 2 ^ 64 }
+    requires room { mouth.old.machine.spent + 3 < 2 ^ 64 }
     requires few { errors.old < 100 }
     ensures going { IfOk result (λ end. F.tells → T.tells → (start : Start) (first : Outside) → IsFor start first → start.job.budget ≡ budget →
         Going start first mouth.old errors.old journal.old (outside_of F.files F.asked T.text tree.old terminal.old)
@@ -263,15 +264,15 @@ fn turn<F: Tree, T: Terminal>(
         Going start first mouth.old errors.old journal.old (outside_of F.files F.asked T.text tree.old terminal.old)
         → AtAsk start first (outside_of F.files F.asked T.text tree.new terminal.new) }
     ensures opened { OnOk result (AllOpen (F.is_open tree.new) journal.new.pen.created) }
-    ensures within { IfOk result (λ end. end ≡ None → mouth.new.spent ≤ budget) }
+    ensures within { IfOk result (λ end. end ≡ None → mouth.new.machine.spent ≤ budget) }
     ensures few { IfOk result (λ end. end ≡ None → errors.new < 100) }
     ensures goes { IfOk result (λ end. end ≡ None → GoesOn mouth.old errors.old mouth.new errors.new) }
     ensures later { NoneFell (faults_of F.faults T.faults tree.old terminal.old) (faults_of F.faults T.faults tree.new terminal.new) }
     ensures read_cause { IsErrOf result Fault.ReadFault → Rose (faults_of F.faults T.faults tree.old terminal.old).reads (faults_of F.faults T.faults tree.new terminal.new).reads }
     ensures write_cause { IsErrOf result Fault.WriteFault → WriteRose (faults_of F.faults T.faults tree.old terminal.old) (faults_of F.faults T.faults tree.new terminal.new) }
 {
-    let did = mouth.turn(alloc)?;
-    if mouth.spent > budget {
+    let did = mouth.turn()?;
+    if mouth.spent() > budget {
         close(alloc, End::Spent, 0, journal)?;
         return Ok(Some(End::Spent));
     }
@@ -320,12 +321,12 @@ pub fn run<F: Tree, T: Terminal>(
     let budget = job.budget();
     let mut journal = Journal::new(alloc);
     journal.push(Deed::Create(name_log(alloc, job.name())?))?;
-    let mut mouth = Mouth::new(alloc, job.into_name())?;
+    let mut mouth = Mouth::new(alloc, job)?;
     let mut errors = 0;
     // A turn may take no step and report no error, but then it makes the mouth's weight less: the innermost loop ends by that,
     // the next since errors are few, and the outermost since the budget is spent.
     'steps: loop {
-        let before = mouth.spent;
+        let before = mouth.spent();
         'errors: loop {
             let counted = errors;
             'free: loop {
@@ -344,7 +345,7 @@ pub fn run<F: Tree, T: Terminal>(
                         has_erred: journal.has_erred(),
                     });
                 }
-                if mouth.spent > before {
+                if mouth.spent() > before {
                     break 'errors;
                 }
                 if errors > counted {

@@ -4,19 +4,17 @@
 //! plain meaning of its words, which `specs/Chain.antt` and `specs/Meaning.antt` define.
 #![tactic(auto)]
 
-mod categories;
+mod commands;
 mod driver;
 mod fault;
 mod law;
-mod message;
+mod machine;
 mod mouth;
-mod printing;
-mod rows;
-mod scan;
 #[cfg(test)]
 mod tests;
 mod typeset;
 mod words;
+mod yields;
 
 pub use law::each_job_has_one_meaning;
 pub use typeset::typeset_alone;

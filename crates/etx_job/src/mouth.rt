@@ -1,20 +1,23 @@
-//! The mouth of a job: it reads the main file, and one turn handles one token.
-ghost use Rattle.std.specs.Prelude.{◌≡◌, ◌≤◌, ◌<◌, ◌+◌, ◌^◌, IfOk, OnOk};
-ghost use Rattle.etx_job.specs.Categories.{category_in};
-ghost use Rattle.etx_job.specs.Turn.{turn_of, first_mouth, line_number_in, line_number_of, over, steps_of, next_of, next_turn, reading_turn, cant_find, source_of, resumed};
+//! The mouth of a job: it asks for the main file, and then its machine reads it, a token a turn.
+ghost use Rattle.std.specs.Prelude.{◌≡◌, ◌<◌, ◌+◌, ◌^◌, IfOk, OnOk};
+ghost use Rattle.etx_input.specs.Files.{unread};
+ghost use Rattle.etx_input.specs.Levels.{with_file};
+ghost use Rattle.etx_state.specs.States.{mouth_of, with_input};
+ghost use Rattle.etx_job.specs.Machine.{machine_turn};
+ghost use Rattle.etx_job.specs.Mouths.{mouth_at};
+ghost use Rattle.etx_job.specs.Turn.{turn_of, first_mouth, line_number_of, yield_of, machine_turned, source_turn, cant_find, answered, source_resumed, resumed};
 ghost use Rattle.etx_job.specs.Measure.{Goes, IsNoMore};
 
-use crate::categories::Categories;
-use crate::rows::handle;
-use crate::scan::{Scan, Yield};
+use crate::machine;
+use crate::yields::Yield;
+use etx_expand::Turned;
 use etx_input::FileInput;
 use etx_lists::Bytes;
-use etx_matter::{Audience, Deed, End, FatalError};
+use etx_matter::{Audience, Deed, End, FatalError, Job};
 use etx_outside::Loaded;
+use etx_state::State;
 use std::alloc::{AllocError, Global};
-
-/// The code of the character that ends each line, the value of `\endlinechar`.
-const END_OF_LINE: i32 = 13;
+use std::marker::Model;
 
 /// What the mouth reads from.
 #[derive(Drop)]
@@ -27,42 +30,24 @@ pub enum Source {
     Absent(Bytes),
     /// The main file can't be read.
     Refused,
-    /// The main file.
-    Reading(FileInput),
+    /// The input of the machine, at whose bottom the main file was.
+    Reading,
 }
 
-/// The mouth of a job, between two turns.
+/// The mouth of a job, between two turns. Contracts see what it reads from and the mouth that its state stands for.
 #[derive(Drop)]
 pub struct Mouth {
-    pub source: Source,
-    /// What the next token is for.
-    pub scan: Scan,
-    pub categories: Categories,
-    /// How many steps were taken.
-    pub spent: u64,
+    source: Source,
+    state: State,
 }
 
-/// The steps of a token.
-fn find_steps(is_copied: bool) -> u64
-    ensures value { result ≡ steps_of is_copied }
-    ensures some { 0 < result }
-    ensures small { result ≤ 2 }
-{
-    if is_copied { 2 } else { 1 }
-}
+impl Model for Mouth {
+    ghost use Rattle.etx_state.specs.States.{mouth_of};
+    ghost use Rattle.etx_job.specs.Mouths.{MouthState};
 
-/// How a job ends whose main file is over in this scan.
-fn find_over(scan: &Scan) -> End
-    ensures { result ≡ over scan.now }
-{
-    match scan {
-        Scan::Commands => End::Fatal(FatalError::NoLegalEnd),
-        // It is whole once it has a digit.
-        Scan::CatcodeSecond(_, _) | Scan::CatcodeSpace(_, _) => {
-            End::Fatal(FatalError::NoLegalEnd)
-        }
-        _ => End::Unbuilt,
-    }
+    ghost Value = { MouthState };
+
+    ghost view = { λ m. record { source = m.source; machine = mouth_of m.state } };
 }
 
 /// The text of the error that there is no file of this name.
@@ -75,44 +60,107 @@ fn cant_find_text(alloc: Global, name: &[u8]) -> Result<Bytes, AllocError>
     Ok(text)
 }
 
-impl Source {
-    /// The number of the line that was read last, or 0.
-    fn line(&self) -> u32
-        ensures { result ≡ line_number_in self.now }
-    {
-        match self {
-            Source::Reading(file) => file.number(),
-            Source::Unasked(_) | Source::Awaited(_) | Source::Absent(_) | Source::Refused => 0,
-        }
+fn yield_of(turned: Turned) -> Yield
+    ensures { result ≡ yield_of turned }
+{
+    match turned {
+        Turned::Again => Yield::Quiet,
+        Turned::Ready(_) => Yield::Quiet,
+        Turned::Deed(deed) => Yield::Act(deed),
+        Turned::End(end) => Yield::Done(end),
     }
+}
 
-    /// What is read from, once the main file was asked for and this is the answer.
-    fn answered(self, alloc: Global, loaded: Loaded) -> Result<Source, AllocError>
-        ensures { IfOk result (λ source. source ≡ source_of self loaded) }
-    {
-        match self {
-            Source::Awaited(name) => match loaded {
-                Loaded::Absent => Ok(Source::Absent(name)),
-                Loaded::TooLong => Ok(Source::Refused),
-                Loaded::Bytes(text) => Ok(Source::Reading(FileInput::new(alloc, text)?)),
-            },
-            _ => Ok(Source::Refused),
+/// There is no file of this name.
+fn miss(alloc: Global, name: &[u8]) -> Result<Yield, AllocError>
+    ensures { IfOk result (λ did. did ≡ Yield.Act (Deed.Error (cant_find name.now) 0 Audience.LogAndTerminal)) }
+{
+    let text = cant_find_text(alloc, name)?;
+    Ok(Yield::Act(Deed::Error {
+        text,
+        line: 0,
+        audience: Audience::LogAndTerminal,
+    }))
+}
+
+/// The machine makes a turn.
+fn read(state: &mut State) -> Result<Yield, AllocError>
+    requires { state.old.spent + 3 < 2 ^ 64 }
+    ensures now { OnOk result (mouth_of state.new ≡ (machine_turn (mouth_of state.old)).now) }
+    ensures did { IfOk result (λ did. did ≡ yield_of (machine_turn (mouth_of state.old)).turned) }
+{
+    let turned = machine::turn(state)?;
+    Ok(yield_of(turned))
+}
+
+/// A turn, by what is read from. After an `Err` both are only dropped.
+fn make_turn(source: &mut Source, state: &mut State) -> Result<Yield, AllocError>
+    requires { state.old.spent + 3 < 2 ^ 64 }
+    ensures now { OnOk result (mouth_at source.new (mouth_of state.new) ≡ (source_turn source.old (mouth_of state.old)).now) }
+    ensures did { IfOk result (λ did. did ≡ (source_turn source.old (mouth_of state.old)).did) }
+{
+    match std::mem::replace(source, Source::Refused) {
+        Source::Unasked(name) => {
+            let asked = name.copy()?;
+            *source = Source::Awaited(name);
+            Ok(Yield::Load(asked))
+        }
+        Source::Awaited(_) => Ok(Yield::Done(End::Fatal(FatalError::FileError))),
+        Source::Absent(name) => miss(state.alloc(), name.as_slice()),
+        Source::Refused => Ok(Yield::Done(End::Fatal(FatalError::FileError))),
+        Source::Reading => {
+            *source = Source::Reading;
+            read(state)
         }
     }
 }
 
+/// The text of the main file is read from its beginning. After an `Err` the state is only dropped.
+fn push_text(state: &mut State, text: Bytes) -> Result<(), AllocError>
+    ensures { OnOk result (mouth_of state.new ≡ with_input (with_file (unread text) (mouth_of state.old).input) (mouth_of state.old)) }
+{
+    let file = FileInput::new(state.alloc(), text)?;
+    state.input.push_file(file)?;
+    Ok(())
+}
+
+/// The answer of the load of the main file, and what is read from then. After an `Err` the state is only dropped.
+fn answer(state: &mut State, name: Bytes, loaded: Loaded) -> Result<Source, AllocError>
+    ensures { IfOk result (λ source. mouth_at source (mouth_of state.new) ≡ answered name loaded (mouth_of state.old)) }
+{
+    match loaded {
+        Loaded::Absent => Ok(Source::Absent(name)),
+        Loaded::TooLong => Ok(Source::Refused),
+        Loaded::Bytes(text) => {
+            push_text(state, text)?;
+            Ok(Source::Reading)
+        }
+    }
+}
+
+/// Only a mouth that awaits an answer is given one.
+fn take_answer(source: Source, state: &mut State, loaded: Loaded) -> Result<Source, AllocError>
+    ensures { IfOk result (λ s. mouth_at s (mouth_of state.new) ≡ source_resumed source loaded (mouth_of state.old)) }
+{
+    match source {
+        Source::Unasked(_) => Ok(Source::Refused),
+        Source::Awaited(name) => answer(state, name, loaded),
+        Source::Absent(_) => Ok(Source::Refused),
+        Source::Refused => Ok(Source::Refused),
+        Source::Reading => Ok(Source::Refused),
+    }
+}
+
 impl Mouth {
-    /// The mouth of INITEX, which is to read the main file of this name.
+    /// The mouth of INITEX, which is to read the main file of this job.
     #[tactic(auto, unfolding(crate::specs::Turn::first_mouth))]
-    pub fn new(alloc: Global, name: Bytes) -> Result<Mouth, AllocError>
-        ensures { IfOk result (λ mouth. mouth ≡ first_mouth name) }
+    pub fn new(alloc: Global, job: Job) -> Result<Mouth, AllocError>
+        ensures { IfOk result (λ mouth. mouth ≡ first_mouth job.name) }
     {
-        let categories = Categories::new(alloc)?;
+        let state = State::open(alloc, &job)?;
         Ok(Mouth {
-            source: Source::Unasked(name),
-            scan: Scan::Commands,
-            categories,
-            spent: 0,
+            source: Source::Unasked(job.into_name()),
+            state,
         })
     }
 
@@ -121,95 +169,45 @@ impl Mouth {
     pub fn line(&self) -> u32
         ensures { result ≡ line_number_of self.now }
     {
-        self.source.line()
+        self.state.input.line()
     }
 
-    /// Makes one turn. After an `Err` the mouth is only dropped.
-    #[tactic(auto, unfolding(crate::specs::Turn::turn_of))]
-    pub fn turn(&mut self, alloc: Global) -> Result<Yield, AllocError>
-        requires { self.old.spent + 2 < 2 ^ 64 }
+    /// How many steps were taken.
+    pub fn spent(&self) -> u64
+        ensures { result ≡ self.now.machine.spent }
+    {
+        self.state.spent
+    }
+
+    /// Makes one turn. It ends the job, reports an error, takes a step, or makes the weight of what waits smaller. After an `Err`
+    /// the mouth is only dropped.
+    pub fn turn(&mut self) -> Result<Yield, AllocError>
+        requires { self.old.machine.spent + 3 < 2 ^ 64 }
         ensures now { OnOk result (self.new ≡ (turn_of self.old).now) }
         ensures did { IfOk result (λ did. did ≡ (turn_of self.old).did) }
         ensures goes { IfOk result (λ did. Goes self.old (record { now = self.new; did = did })) }
     {
-        let source = std::mem::replace(&mut self.source, Source::Refused);
-        match source {
-            Source::Unasked(name) => {
-                let asked = name.copy()?;
-                self.source = Source::Awaited(name);
-                Ok(Yield::Load(asked))
-            }
-            Source::Awaited(_) | Source::Refused => {
-                Ok(Yield::Done(End::Fatal(FatalError::FileError)))
-            }
-            Source::Absent(name) => {
-                let text = cant_find_text(alloc, name.as_slice())?;
-                Ok(Yield::Act(Deed::Error {
-                    text,
-                    line: 0,
-                    audience: Audience::LogAndTerminal,
-                }))
-            }
-            Source::Reading(file) => {
-                let did = self.read(alloc, file)?;
-                Ok(did)
-            }
-        }
+        let did = self.go_on()?;
+        Ok(did)
     }
 
-    /// Says what is to be said, or gets a token of the main file and does with it what the scan is for.
-    fn read(&mut self, alloc: Global, file: FileInput) -> Result<Yield, AllocError>
-        requires { self.old.spent + 2 < 2 ^ 64 }
-        ensures now { OnOk result (self.new ≡ (reading_turn self.old.scan file self.old).now) }
-        ensures did { IfOk result (λ did. did ≡ (reading_turn self.old.scan file self.old).did) }
+    #[tactic(auto, unfolding(crate::specs::Turn::turn_of))]
+    fn go_on(&mut self) -> Result<Yield, AllocError>
+        requires { self.old.machine.spent + 3 < 2 ^ 64 }
+        ensures now { OnOk result (self.new ≡ (turn_of self.old).now) }
+        ensures did { IfOk result (λ did. did ≡ (turn_of self.old).did) }
     {
-        let scan = std::mem::replace(&mut self.scan, Scan::Commands);
-        match scan {
-            Scan::Say(bytes) => {
-                self.source = Source::Reading(file);
-                Ok(Yield::Act(Deed::Text {
-                    bytes,
-                    audience: Audience::LogAndTerminal,
-                }))
-            }
-            scan => {
-                let did = self.take(alloc, scan, file)?;
-                Ok(did)
-            }
-        }
-    }
-
-    /// Gets a token of the main file for a scan.
-    fn take(&mut self, alloc: Global, scan: Scan, mut file: FileInput) -> Result<Yield, AllocError>
-        requires { self.old.spent + 2 < 2 ^ 64 }
-        ensures now { OnOk result (self.new ≡ (next_turn (next_of (category_in self.old.categories) file) (record self.old { scan = scan })).now) }
-        ensures did { IfOk result (λ did. did ≡ (next_turn (next_of (category_in self.old.categories) file) (record self.old { scan = scan })).did) }
-    {
-        let got = file.next(alloc, END_OF_LINE, &self.categories)?;
-        self.source = Source::Reading(file);
-        match got {
-            None => {
-                let end = find_over(&scan);
-                self.scan = scan;
-                Ok(Yield::Done(end))
-            }
-            Some(lexed) => {
-                let plan = handle(alloc, scan, &lexed, &mut self.categories)?;
-                self.scan = plan.scan;
-                self.spent += find_steps(plan.is_copied);
-                Ok(plan.did)
-            }
-        }
+        make_turn(&mut self.source, &mut self.state)
     }
 
     /// Takes the answer of a load. After an `Err` the mouth is only dropped.
     #[tactic(auto, unfolding(crate::specs::Turn::resumed))]
-    pub fn resume(&mut self, alloc: Global, loaded: Loaded) -> Result<(), AllocError>
+    pub fn resume(&mut self, loaded: Loaded) -> Result<(), AllocError>
         ensures now { OnOk result (self.new ≡ resumed self.old loaded) }
         ensures no_more { OnOk result (IsNoMore self.old self.new) }
     {
         let source = std::mem::replace(&mut self.source, Source::Refused);
-        self.source = source.answered(alloc, loaded)?;
+        self.source = take_answer(source, &mut self.state, loaded)?;
         Ok(())
     }
 }

@@ -118,14 +118,12 @@ fn a_source_may_be_absent_or_too_long(rt: HostRuntime) -> Result<(), Fail> {
     Ok(())
 }
 
-/// Sources that ask for what isn't built: a name that isn't, characters as commands, a `\\catcode` or a `\\message` of another
-/// form, and what a message doesn't take.
+/// Sources that ask for what isn't built: characters as commands, primitives that are still to come, a `\\catcode` of another form,
+/// and a macro with a parameter.
 const UNBUILT_SOURCES: &[&[u8]] = &[
     b"\\relax x\\end",
     b"{",
     b"\\ \\end",
-    b"\x7f\\end",
-    b"\\",
     b"~",
     b"\\catcode65=1 \\end",
     b"\\catcode`\\relax=1 \\end",
@@ -133,14 +131,9 @@ const UNBUILT_SOURCES: &[&[u8]] = &[
     b"\\catcode`a=123 \\end",
     b"\\catcode`a==1 \\end",
     b"\\catcode`a\\end",
-    b"\\catcode",
-    b"\\message{}\\end",
     b"\\catcode`!=14!\\end",
-    b"\\catcode`{=1{\\catcode`}=2 \\message{}\\end",
-    b"\\catcode`{=1 \\message{a",
-    b"\\catcode`{=1 \\message{\\undefined",
-    b"\\catcode`{=1 \\message{\x7f",
-    b"\\catcode`{=1 \\catcode`a=13 \\message{a",
+    b"\\errmessage{x}\\end",
+    b"\\catcode`{=1 \\catcode`}=2 \\catcode`#=6 \\def\\a#1{}\\a x\\end",
 ];
 
 #[test]
@@ -180,6 +173,76 @@ fn messages_are_printed_as_etex_prints_them(rt: HostRuntime) -> Result<(), Fail>
     Ok(())
 }
 
+/// The line that gives braces and the parameter character their categories.
+const BRACES: &[u8] = b"\\catcode`\\{=1 \\catcode`\\}=2 \\catcode`\\#=6\n";
+
+/// Whether a job whose second line is this one says this.
+fn says(alloc: Global, line: &[u8], status: Status, transcript: &[u8]) -> Result<bool, AllocError> {
+    let mut source = BRACES.to_vec(alloc)?;
+    source.extend_from_slice(line)?;
+    let left = call(alloc, &["alone", "job"], source.as_slice())?;
+    Ok(left.is(status, b"job.log", transcript))
+}
+
+#[test]
+fn macros_are_expanded(rt: HostRuntime) -> Result<(), Fail> {
+    let alloc = rt.alloc();
+    let end = Status::Clean;
+    let line = b"\\edef\\a{\\noexpand\\b}\\def\\b{y}\\message{\\a}\\end";
+    assert!(rt; says(alloc, line, end, b"y\nNo pages of output.\n")?);
+    let line = b"\\message{\\expandafter\\string\\csname a b\\endcsname}\\end";
+    assert!(rt; says(alloc, line, end, b"\\a b\nNo pages of output.\n")?);
+    let line = b"\\def\\c{\\message{g}}\\begingroup\\aftergroup\\c\\endgroup\\end";
+    assert!(rt; says(alloc, line, end, b"g\nNo pages of output.\n")?);
+    Ok(())
+}
+
+#[test]
+fn errors_are_reported(rt: HostRuntime) -> Result<(), Fail> {
+    let alloc = rt.alloc();
+    let end = Status::Errors;
+    let said = b"! Text line contains an invalid character.\nl.2\nNo pages of output.\n";
+    assert!(rt; says(alloc, b"\x7f\\end", end, said)?);
+    let said = b"! Extra \\endgroup.\nl.2\nx\nNo pages of output.\n";
+    assert!(rt; says(alloc, b"\\endgroup\\message{x}\\end", end, said)?);
+    Ok(())
+}
+
+#[test]
+fn a_macro_that_calls_itself_spends_the_steps(rt: HostRuntime) -> Result<(), Fail> {
+    let alloc = rt.alloc();
+    let mut source = BRACES.to_vec(alloc)?;
+    source.extend_from_slice(b"\\def\\a{\\a}\\a")?;
+    let left = call(
+        alloc,
+        &["alone", "--steps", "1000", "job"],
+        source.as_slice(),
+    )?;
+    assert!(rt;
+        left.is(
+            Status::Spent,
+            b"job.log",
+            b"*** (step budget spent)\nNo pages of output.\n"
+        )
+    );
+    Ok(())
+}
+
+#[test]
+fn the_hundredth_error_ends_a_job(rt: HostRuntime) -> Result<(), Fail> {
+    let alloc = rt.alloc();
+    let mut source = Vec::new(alloc);
+    let mut said = Vec::new(alloc);
+    for _ in 0..100u32 {
+        source.extend_from_slice(b"\\u")?;
+        said.extend_from_slice(b"! Undefined control sequence.\nl.1\n")?;
+    }
+    said.extend_from_slice(b"(That makes 100 errors; please try again.)\nNo pages of output.\n")?;
+    let left = call(alloc, &["alone", "job"], source.as_slice())?;
+    assert!(rt; left.is(Status::Stopped, b"job.log", said.as_slice()));
+    Ok(())
+}
+
 #[test]
 fn a_job_has_the_name_of_its_file(rt: HostRuntime) -> Result<(), Fail> {
     let alloc = rt.alloc();
@@ -213,9 +276,10 @@ fn a_log_is_made_before_its_source_is_read(rt: HostRuntime) -> Result<(), Fail> 
 #[test]
 fn other_words_get_the_usage(rt: HostRuntime) -> Result<(), Fail> {
     let alloc = rt.alloc();
-    let lists: [&[&str]; 8] = [
+    let lists: [&[&str]; 9] = [
         &[],
         &["alone"],
+        &["alone", "job", "job"],
         &["alone", "-job"],
         &["alone", "a/b"],
         &["alone", ".."],
@@ -257,81 +321,5 @@ fn a_failing_call_cuts_the_history(rt: HostRuntime) -> Result<(), Fail> {
         let whole = call_failing(alloc, words, b"\\end", &[], &[unreached])?;
         assert!(rt; whole.is(Status::Clean, b"job.log", NO_PAGES));
     }
-    Ok(())
-}
-
-/// Whether these words get the usage, and no file is asked for.
-fn is_usage(alloc: Global, words: &[&str]) -> Result<bool, AllocError> {
-    let left = call(alloc, words, b"\\end")?;
-    Ok(left.status == Status::Usage && left.tree.calls() == 0)
-}
-
-/// Words that aren't of a form that is known, behind `alone`.
-const OTHER_STEPS: &[&[&str]] = &[
-    &["alone", "job", "job"],
-    &["alone", "--steps=5"],
-    &["alone", "job", "--steps"],
-    &["alone", "job", "--steps="],
-    &["alone", "job", "--steps", ""],
-    &["alone", "job", "--steps", "0"],
-    &["alone", "job", "--steps=1099511627777"],
-    &["alone", "job", "--steps=00000000000005"],
-    &["alone", "job", "--steps=+5"],
-    &["alone", "job", "--steps=5a"],
-    &["alone", "--steps", "job", "5"],
-    &["alone", "job", "--steps=5", "--steps=5"],
-    &["alone", "job", "--steps", "5", "--steps=5"],
-    &["--steps=5", "alone", "job"],
-];
-
-#[test]
-fn steps_of_another_form_get_the_usage(rt: HostRuntime) -> Result<(), Fail> {
-    let alloc = rt.alloc();
-    for words in OTHER_STEPS {
-        assert!(rt; is_usage(alloc, *words)?);
-    }
-    Ok(())
-}
-
-/// Three names: three steps.
-const THREE_STEPS: &[u8] = b"\\relax\\par \\end";
-
-/// The answer to these words, where the main file has three names.
-fn end_under(alloc: Global, words: &[&str]) -> Result<Status, AllocError> {
-    let left = call(alloc, words, THREE_STEPS)?;
-    Ok(left.status)
-}
-
-const ENOUGH_STEPS: &[&[&str]] = &[
-    &["alone", "job"],
-    &["alone", "job", "--steps=3"],
-    &["alone", "--steps=3", "job"],
-    &["alone", "job", "--steps", "3"],
-    &["alone", "--steps", "3", "job"],
-    &["alone", "job", "--steps=0000000000003"],
-    &["alone", "job", "--steps=1099511627776"],
-];
-
-const FEW_STEPS: &[&[&str]] = &[
-    &["alone", "job", "--steps=2"],
-    &["alone", "--steps=1", "job"],
-    &["alone", "job", "--steps", "2"],
-    &["alone", "--steps", "02", "job"],
-];
-
-const NO_STEPS_LEFT: &[u8] = b"*** (step budget spent)\nNo pages of output.\n";
-
-#[test]
-fn a_budget_is_spent_where_the_next_step_would_pass_it(rt: HostRuntime) -> Result<(), Fail> {
-    let alloc = rt.alloc();
-    for words in ENOUGH_STEPS {
-        assert!(rt; end_under(alloc, *words)? == Status::Clean);
-    }
-    for words in FEW_STEPS {
-        assert!(rt; end_under(alloc, *words)? == Status::Spent);
-    }
-    let spent = call(alloc, &["alone", "job", "--steps=2"], THREE_STEPS)?;
-    assert!(rt; spent.is(Status::Spent, b"job.log", NO_STEPS_LEFT));
-    assert!(rt; spent.status.exit_status() == 3);
     Ok(())
 }

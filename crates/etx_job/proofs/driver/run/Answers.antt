@@ -5,7 +5,7 @@ use Rattle.etx_settle.specs.Deeds.{JournalState, first_pen, is_among}
 use Rattle.etx_matter.specs.declared.deed.Deed.{Deed}
 use Rattle.etx_matter.specs.declared.deed.Deed.TheVariants.{Create}
 use Rattle.etx_matter.specs.Jobs.{JobState}
-use Rattle.etx_job.specs.declared.mouth.Mouth.{Mouth}
+use Rattle.etx_job.specs.Mouths.{MouthState}
 use Rattle.etx_job.specs.Turn.{first_mouth}
 use Rattle.etx_job.specs.Words.{log_name}
 use Rattle.etx_job.proofs.Turns.{cut_going, cut_over, over_of, going_of}
@@ -29,7 +29,7 @@ steps-init g c =
     ∙ ap (λ (j : JournalState). record j { waiting = j.waiting ++ Create c.in_ok-name_log.field-0 ∷ [] }) c.new-journal.ensures
     ∙ ap (λ (l : List ℕ). record { pen = first_pen; waiting = Create l ∷ [] }) (c.in_ok-name_log.ensures ∙ ap log_name c.name.ensures) in
     record {
-      within = let none : c.in_ok-mouth.mouth.spent ≡ 0 = ap (λ (m : Mouth). m.spent) c.in_ok-mouth.ensures in omega arith;
+      within = let none : c.in_ok-mouth.mouth.machine.spent ≡ 0 = ap (λ (m : MouthState). m.machine.spent) c.in_ok-mouth.ensures in omega arith;
       few = omega arith;
       asked = c.budget-budget.ensures.value;
       bounded = c.budget-budget.ensures.bounded;
@@ -38,7 +38,7 @@ steps-init g c =
       going = λ a b start files is. going_starts
           _
           _
-          (c.in_ok-mouth.ensures ∙ ap first_mouth c.into_name.ensures ∙ ap (λ (j : JobState). first_mouth j.name) (sym is))
+          (c.in_ok-mouth.ensures ∙ ap (λ (j : JobState). first_mouth j.name) (sym is))
           (journal ∙ ap (λ (j : JobState). record { pen = first_pen; waiting = Create (log_name j.name) ∷ [] }) (sym is));
     }
 

@@ -12,7 +12,7 @@ invariant-steps g l =
     let faults = faults_of g.F.Tree.faults g.T.Terminal.faults in
     let first = seen l.fn.tree l.fn.terminal in
     record {
-      within : l.mouth.spent ≤ l.budget;
+      within : l.mouth.machine.spent ≤ l.budget;
       few : l.errors < 100;
       asked : l.budget ≡ l.fn.job.budget;
       bounded : l.budget ≤ 1099511627776;
@@ -22,7 +22,7 @@ invariant-steps g l =
     }
 
 abbrev pub decreases-steps : goal.decreases-steps
-decreases-steps g l = l.budget - l.mouth.spent
+decreases-steps g l = l.budget - l.mouth.machine.spent
 
 abbrev pub invariant-errors : goal.invariant-errors
 invariant-errors g l =
@@ -30,8 +30,8 @@ invariant-errors g l =
     let faults = faults_of g.F.Tree.faults g.T.Terminal.faults in
     let first = seen l.fn.tree l.fn.terminal in
     record {
-      same : l.mouth.spent ≡ l.before;
-      within : l.mouth.spent ≤ l.budget;
+      same : l.mouth.machine.spent ≡ l.before;
+      within : l.mouth.machine.spent ≤ l.budget;
       few : l.errors < 100;
       asked : l.budget ≡ l.fn.job.budget;
       bounded : l.budget ≤ 1099511627776;
@@ -49,9 +49,9 @@ invariant-free g l =
     let faults = faults_of g.F.Tree.faults g.T.Terminal.faults in
     let first = seen l.fn.tree l.fn.terminal in
     record {
-      same : l.mouth.spent ≡ l.before;
+      same : l.mouth.machine.spent ≡ l.before;
       uncounted : l.errors ≡ l.counted;
-      within : l.mouth.spent ≤ l.budget;
+      within : l.mouth.machine.spent ≤ l.budget;
       few : l.errors < 100;
       asked : l.budget ≡ l.fn.job.budget;
       bounded : l.budget ≤ 1099511627776;
