@@ -1,6 +1,6 @@
 -- The ligatures and kerns of a run of characters: a list that is rewritten at a cursor. "TeX: The Program", sections 545
 -- and 1029 to 1040; there the list is spread over a part that is finished, a character and a stack of ligatures.
-use Rattle.std.specs.Prelude.{ℕ, zero, suc, ◌+◌, Bool, true, false, ◌||◌, ℤ, pos, List, [], ◌∷◌, ◌++◌, map, min, slice_get, Option, None, Some, unwrap_or}
+use Rattle.std.specs.Prelude.{ℕ, zero, suc, Bool, true, false, ◌||◌, ℤ, pos, List, [], ◌∷◌, ◌++◌, map, slice_get, Option, None, Some, unwrap_or}
 use Rattle.etx_matter.specs.declared.node.Node.{Node, Node-F, roll-Node}
 use Rattle.etx_matter.specs.declared.node.KernKind.TheVariants as kern
 use Rattle.etx_matter.specs.declared.sizes.CharSize.{CharSize}
@@ -88,10 +88,6 @@ passed font zero written rest = record { written = written; rest = rest }
 passed font (suc count) written [] = record { written = written; rest = [] }
 passed font (suc count) written (x ∷ rest) = passed font count (written ++ nodes_of font x) rest
 
-abbrev pub kept : Bool → ℕ
-kept true = 1
-kept false = 0
-
 abbrev pub item_if : Bool → Piece → List Piece
 item_if true x = x ∷ []
 item_if false x = []
@@ -111,17 +107,13 @@ made_of x y code keeps_current keeps_next =
     (edge_unless keeps_current (has_left_edge x) || edge_unless keeps_next (has_left_edge y))
     (edge_unless keeps_current (has_right_edge x) || edge_unless keeps_next (has_right_edge y))
 
--- the cursor passes over no more than stays of the two and the ligature, but for the last
-abbrev pub passes_of : ℕ → Bool → Bool → ℕ
-passes_of passes keeps_current keeps_next = min passes (kept keeps_current + kept keeps_next)
-
 -- what becomes of the item at the cursor and the next one: where nothing is to be done, the cursor passes over one item
 abbrev pub by_action : FontState → List Node → Piece → Piece → List Piece → Option PairAction → Place
 by_action font written x y rest None = record { written = written ++ nodes_of font x; rest = y ∷ rest }
 by_action font written x y rest (Some (Kern place)) =
     record { written = written ++ nodes_of font x ++ kern_of font place ∷ []; rest = y ∷ rest }
 by_action font written x y rest (Some (Ligature code keeps_current keeps_next passes)) =
-    passed font (passes_of passes keeps_current keeps_next) written
+    passed font passes written
     (item_if keeps_current x ++ made_of x y code keeps_current keeps_next ∷ (item_if keeps_next y ++ rest))
 
 unfoldable pub stepped : FontState → List Node → Piece → Piece → List Piece → Place

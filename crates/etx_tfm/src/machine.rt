@@ -1,7 +1,7 @@
 //! Ligatures and kerns of a run of characters.
-ghost use Rattle.std.specs.Prelude.{◌≡◌, ◌+◌, ◌++◌, ◌∷◌, [], List, OnOk, IfOk, ◌≤◌};
+ghost use Rattle.std.specs.Prelude.{◌≡◌, ◌++◌, ◌∷◌, [], List, OnOk, IfOk};
 ghost use Rattle.etx_matter.specs.declared.node.Node.{Node};
-ghost use Rattle.etx_tfm.specs.Machine.{size_by, size_of, number_at, nodes_of, kern_of, place, passed, kept, passes_of, item_if, made_of, stepped, Rewrites, ComesTo, edged};
+ghost use Rattle.etx_tfm.specs.Machine.{size_by, size_of, number_at, nodes_of, kern_of, place, passed, item_if, made_of, stepped, Rewrites, ComesTo, edged};
 
 use crate::piece::{Piece, made_of};
 use crate::program::action_between;
@@ -98,19 +98,6 @@ fn pass(
     Ok(())
 }
 
-fn kept(stays: bool) -> u8
-    ensures value { result ≡ kept stays }
-    ensures small { result ≤ 1 }
-{
-    if stays { 1 } else { 0 }
-}
-
-fn passes_of(passes: u8, keeps_current: bool, keeps_next: bool) -> u8
-    ensures { result ≡ passes_of passes keeps_current keeps_next }
-{
-    passes.min(kept(keeps_current) + kept(keeps_next))
-}
-
 /// Puts an item that stays back, in front of the others.
 fn put_if(stays: bool, piece: Piece, rest: &mut VecDeque<Piece>) -> Result<(), AllocError>
     ensures { OnOk result (rest.new.items ≡ item_if stays piece ++ rest.old.items) }
@@ -155,12 +142,7 @@ fn step(
             put_if(keeps_next, next, rest)?;
             rest.push_front(made)?;
             put_if(keeps_current, current, rest)?;
-            pass(
-                font,
-                passes_of(passes, keeps_current, keeps_next),
-                out,
-                rest,
-            )
+            pass(font, passes, out, rest)
         }
     }
 }
