@@ -1,6 +1,7 @@
 -- The ligatures and kerns of a run of characters: a list that is rewritten at a cursor. "TeX: The Program", sections 545
--- and 1029 to 1040; there the list is spread over a part that is finished, a character and a stack of ligatures.
-use Rattle.std.specs.Prelude.{ℕ, zero, suc, ◌+◌, Bool, true, false, ◌||◌, ℤ, pos, List, [], ◌∷◌, ◌++◌, map, min, slice_get, Option, None, Some, unwrap_or}
+-- and 1029 to 1040; there the list is spread over a part that is finished, a character and a stack of ligatures,
+-- and the edges are `lft_hit` and `rt_hit`.
+use Rattle.std.specs.Prelude.{ℕ, zero, suc, Bool, true, false, ◌&&◌, ◌||◌, ℤ, pos, List, [], ◌∷◌, ◌++◌, map, slice_get, Option, None, Some, unwrap_or}
 use Rattle.etx_matter.specs.declared.node.Node.{Node, Node-F, roll-Node}
 use Rattle.etx_matter.specs.declared.node.KernKind.TheVariants as kern
 use Rattle.etx_matter.specs.declared.sizes.CharSize.{CharSize}
@@ -11,8 +12,9 @@ use Rattle.etx_matter.specs.declared.font.PairAction.TheVariants.{Kern, Ligature
 use Rattle.etx_matter.specs.declared.font.LigItem.{LigItem}
 use Rattle.etx_matter.specs.declared.font.LigItem.TheVariants.{Boundary, Glyph}
 use Rattle.etx_matter.specs.declared.font.FontInfo.{FontInfo}
-use Rattle.etx_matter.specs.Fonts.{FontState, info_at}
+use Rattle.etx_matter.specs.Fonts.{FontState, opposite, info_at}
 use Rattle.etx_matter.specs.Ligatures.{action_between}
+use Rattle.etx_tfm.specs.declared.piece.Edges.{Edges}
 use Rattle.etx_tfm.specs.declared.piece.Piece.{Piece}
 use Rattle.etx_tfm.specs.declared.piece.Piece.TheVariants.{LeftEdge, RightEdge, Letter, Made}
 
@@ -21,27 +23,31 @@ abbrev pub item_of : Piece → LigItem
 item_of LeftEdge = Boundary
 item_of RightEdge = Boundary
 item_of (Letter code) = Glyph code
-item_of (Made code letters left right) = Glyph code
+item_of (Made code letters) = Glyph code
 
 -- the letters that an item stands for
 abbrev pub letters_of : Piece → List ℕ
 letters_of LeftEdge = []
 letters_of RightEdge = []
 letters_of (Letter code) = code ∷ []
-letters_of (Made code letters left right) = letters
+letters_of (Made code letters) = letters
 
--- an edge of the word is, or is part of, an item
-abbrev pub has_left_edge : Piece → Bool
-has_left_edge LeftEdge = true
-has_left_edge RightEdge = false
-has_left_edge (Letter code) = false
-has_left_edge (Made code letters left right) = left
+abbrev pub is_left_edge : Piece → Bool
+is_left_edge LeftEdge = true
+is_left_edge RightEdge = false
+is_left_edge (Letter code) = false
+is_left_edge (Made code letters) = false
 
-abbrev pub has_right_edge : Piece → Bool
-has_right_edge LeftEdge = false
-has_right_edge RightEdge = true
-has_right_edge (Letter code) = false
-has_right_edge (Made code letters left right) = right
+abbrev pub is_right_edge : Piece → Bool
+is_right_edge LeftEdge = false
+is_right_edge RightEdge = true
+is_right_edge (Letter code) = false
+is_right_edge (Made code letters) = false
+
+-- nothing follows but the right edge of the word, behind which nothing stands
+abbrev pub is_end : List Piece → Bool
+is_end [] = true
+is_end (x ∷ rest) = is_right_edge x
 
 -- a number of a table; places that lead to nothing don't come up in a font
 abbrev pub number_at : List ℤ → ℕ → ℤ
@@ -63,34 +69,51 @@ size_in font (Some c) = size_by font.dimensions c
 abbrev pub size_of : FontInfo → ℕ → CharSize
 size_of font code = size_in font (info_at font code)
 
--- what an item becomes when the cursor has passed it; an edge becomes nothing
-abbrev pub nodes_of : FontState → Piece → List Node
-nodes_of font LeftEdge = []
-nodes_of font RightEdge = []
-nodes_of font (Letter code) = roll-Node (Node-F.Char font.number code (size_of font.info code)) ∷ []
-nodes_of font (Made code letters left right) =
-    roll-Node (Node-F.Lig font.number code (size_of font.info code) letters left right) ∷ []
+-- Which edges of the word took part in a ligature of which no node has told yet. An edge takes part where it is one of the
+-- two items between which a ligature is made, whether it stays or not; of two edges the left one alone counts.
+abbrev pub no_edges : Edges
+no_edges = record { left = false; right = false }
+
+abbrev pub edges_with : Edges → Piece → Piece → Edges
+edges_with edges x y = record {
+  left = edges.left || is_left_edge x;
+  right = edges.right || opposite (is_left_edge x) && is_right_edge y;
+}
+
+-- what an item becomes when the cursor passes it; an edge becomes nothing. A ligature tells of the left edge, and, if it
+-- is the last item of the word, of the right one.
+abbrev pub nodes_of : FontState → Edges → Bool → Piece → List Node
+nodes_of font edges ends LeftEdge = []
+nodes_of font edges ends RightEdge = []
+nodes_of font edges ends (Letter code) = roll-Node (Node-F.Char font.number code (size_of font.info code)) ∷ []
+nodes_of font edges ends (Made code letters) =
+    roll-Node (Node-F.Lig font.number code (size_of font.info code) letters edges.left (edges.right && ends)) ∷ []
+
+-- the edges of which no node has told when the cursor has passed an item
+abbrev pub edges_behind : Edges → Bool → Piece → Edges
+edges_behind edges ends LeftEdge = edges
+edges_behind edges ends RightEdge = edges
+edges_behind edges ends (Letter code) = edges
+edges_behind edges ends (Made code letters) = record { left = false; right = edges.right && opposite ends }
 
 abbrev pub kern_of : FontState → ℕ → Node
 kern_of font place = roll-Node (Node-F.Kern (number_at font.info.kerns place) kern.Normal)
 
--- what is written before the cursor, and the items from the cursor on
+-- what is written before the cursor, the edges of which it doesn't tell yet, and the items from the cursor on
 pub record Place : Type 0 where
   pub written : List Node
+  pub edges : Edges
   pub rest : List Piece
 
-abbrev pub place : List Node → List Piece → Place
-place written rest = record { written = written; rest = rest }
+abbrev pub place : List Node → Edges → List Piece → Place
+place written edges rest = record { written = written; edges = edges; rest = rest }
 
 -- the cursor passes over so many items, or over all that there are
-unfoldable pub passed : FontState → ℕ → List Node → List Piece → Place
-passed font zero written rest = record { written = written; rest = rest }
-passed font (suc count) written [] = record { written = written; rest = [] }
-passed font (suc count) written (x ∷ rest) = passed font count (written ++ nodes_of font x) rest
-
-abbrev pub kept : Bool → ℕ
-kept true = 1
-kept false = 0
+unfoldable pub passed : FontState → ℕ → List Node → Edges → List Piece → Place
+passed font zero written edges rest = record { written = written; edges = edges; rest = rest }
+passed font (suc count) written edges [] = record { written = written; edges = edges; rest = [] }
+passed font (suc count) written edges (x ∷ rest) =
+    passed font count (written ++ nodes_of font edges (is_end rest) x) (edges_behind edges (is_end rest) x) rest
 
 abbrev pub item_if : Bool → Piece → List Piece
 item_if true x = x ∷ []
@@ -100,42 +123,40 @@ abbrev pub letters_unless : Bool → Piece → List ℕ
 letters_unless true x = []
 letters_unless false x = letters_of x
 
-abbrev pub edge_unless : Bool → Bool → Bool
-edge_unless true edge = false
-edge_unless false edge = edge
-
 -- a ligature stands for what it takes the place of
 abbrev pub made_of : Piece → Piece → ℕ → Bool → Bool → Piece
-made_of x y code keeps_current keeps_next =
-    Made code (letters_unless keeps_current x ++ letters_unless keeps_next y)
-    (edge_unless keeps_current (has_left_edge x) || edge_unless keeps_next (has_left_edge y))
-    (edge_unless keeps_current (has_right_edge x) || edge_unless keeps_next (has_right_edge y))
-
--- the cursor passes over no more than stays of the two and the ligature, but for the last
-abbrev pub passes_of : ℕ → Bool → Bool → ℕ
-passes_of passes keeps_current keeps_next = min passes (kept keeps_current + kept keeps_next)
+made_of x y code keeps_current keeps_next = Made code (letters_unless keeps_current x ++ letters_unless keeps_next y)
 
 -- what becomes of the item at the cursor and the next one: where nothing is to be done, the cursor passes over one item
-abbrev pub by_action : FontState → List Node → Piece → Piece → List Piece → Option PairAction → Place
-by_action font written x y rest None = record { written = written ++ nodes_of font x; rest = y ∷ rest }
-by_action font written x y rest (Some (Kern place)) =
-    record { written = written ++ nodes_of font x ++ kern_of font place ∷ []; rest = y ∷ rest }
-by_action font written x y rest (Some (Ligature code keeps_current keeps_next passes)) =
-    passed font (passes_of passes keeps_current keeps_next) written
+abbrev pub by_action : FontState → List Node → Edges → Piece → Piece → List Piece → Option PairAction → Place
+by_action font written edges x y rest None = record {
+  written = written ++ nodes_of font edges (is_right_edge y) x;
+  edges = edges_behind edges (is_right_edge y) x;
+  rest = y ∷ rest;
+}
+by_action font written edges x y rest (Some (Kern kern)) = record {
+  written = written ++ nodes_of font edges (is_right_edge y) x ++ kern_of font kern ∷ [];
+  edges = edges_behind edges (is_right_edge y) x;
+  rest = y ∷ rest;
+}
+by_action font written edges x y rest (Some (Ligature code keeps_current keeps_next passes)) =
+    passed font passes written (edges_with edges x y)
     (item_if keeps_current x ++ made_of x y code keeps_current keeps_next ∷ (item_if keeps_next y ++ rest))
 
-unfoldable pub stepped : FontState → List Node → Piece → Piece → List Piece → Place
-stepped font written x y rest = by_action font written x y rest (action_between font.info (item_of x) (item_of y))
+unfoldable pub stepped : FontState → List Node → Edges → Piece → Piece → List Piece → Place
+stepped font written edges x y rest =
+    by_action font written edges x y rest (action_between font.info (item_of x) (item_of y))
 
 -- a list is rewritten until no item stands behind the cursor, and then the last one is written
-pub data Rewrites (font : FontState) : List Node → List Piece → List Node → Type 0 where
-  over : {written : List Node} → Rewrites font written [] written
-  last : {written : List Node} {x : Piece} → Rewrites font written (x ∷ []) (written ++ nodes_of font x)
-  next : {written nodes : List Node} {x y : Piece} {rest : List Piece} → Rewrites font (stepped font written x y rest).written (stepped font written x y rest).rest nodes → Rewrites font written (x ∷ y ∷ rest) nodes
+pub data Rewrites (font : FontState) : List Node → Edges → List Piece → List Node → Type 0 where
+  over : {written : List Node} {edges : Edges} → Rewrites font written edges [] written
+  last : {written : List Node} {edges : Edges} {x : Piece} → Rewrites font written edges (x ∷ []) (written ++ nodes_of font edges true x)
+  next : {written nodes : List Node} {edges : Edges} {x y : Piece} {rest : List Piece} → Rewrites font (stepped font written edges x y rest).written (stepped font written edges x y rest).edges (stepped font written edges x y rest).rest nodes → Rewrites font written edges (x ∷ y ∷ rest) nodes
 
 -- what one place comes to, an earlier one comes to as well
-abbrev pub ComesTo : FontState → List Node → List Piece → List Node → List Piece → Type 0
-ComesTo font written rest written' rest' = (nodes : List Node) → Rewrites font written' rest' nodes → Rewrites font written rest nodes
+abbrev pub ComesTo : FontState → List Node → Edges → List Piece → List Node → Edges → List Piece → Type 0
+ComesTo font written edges rest written' edges' rest' =
+    (nodes : List Node) → Rewrites font written' edges' rest' nodes → Rewrites font written edges rest nodes
 
 -- the word with the edges that are asked for
 abbrev pub edged : List ℕ → Bool → Bool → List Piece

@@ -1,5 +1,5 @@
 -- The words of a TFM file, four bytes each, and what each says: "TeX: The Program", sections 541 to 546.
-use Rattle.std.specs.Prelude.{ℕ, ◌+◌, ◌-◌, ◌*◌, ◌/◌, ◌%◌, ◌==◌, nat_lt, nat_le, if◌then◌else◌, List, [], ◌∷◌, Option, None, Some}
+use Rattle.std.specs.Prelude.{ℕ, ◌+◌, ◌-◌, ◌*◌, ◌/◌, ◌%◌, ◌==◌, nat_lt, nat_le, Bool, ◌&&◌, ◌||◌, if◌then◌else◌, List, [], ◌∷◌, Option, None, Some}
 use Rattle.etx_matter.specs.declared.font.CharTag.{CharTag}
 use Rattle.etx_matter.specs.declared.font.CharTag.TheVariants.{Plain, Program, Successor, Extensible}
 use Rattle.etx_matter.specs.declared.font.CharInfo.{CharInfo}
@@ -26,12 +26,24 @@ abbrev pub char_of : Word → CharInfo
 char_of w =
     record { width = w.a; height = w.b / 16; depth = w.b % 16; italic = w.c / 4; tag = tag_of (w.c % 4) w.d }
 
--- from 128 on a kern; below, 4a+2b+c for a ligature after which the cursor passes over a characters, and where b and c
--- say whether the current and the next character stay
+-- the operations below 128 that have a meaning
+abbrev pub is_lawful : ℕ → Bool
+is_lawful operation = nat_le operation 3 || nat_le 5 operation && nat_le operation 7 || operation == 11
+
+-- any other counts as 0, as it does when TeX carries it out (section 1040) and when TFtoPL reads it
+abbrev pub counted_as : ℕ → ℕ
+counted_as operation = if is_lawful operation then operation else 0
+
+-- 4a+2b+c for a ligature after which the cursor passes over a characters, and where b and c say whether the current and
+-- the next character stay; a is at most b+c in those that have a meaning
+abbrev pub ligature_of : ℕ → ℕ → PairAction
+ligature_of operation code = Ligature code (operation / 2 % 2 == 1) (operation % 2 == 1) (operation / 4)
+
+-- from 128 on a kern, and below a ligature
 abbrev pub action_of : ℕ → ℕ → PairAction
 action_of operation remainder =
     if nat_le 128 operation then Kern ((operation - 128) * 256 + remainder)
-    else Ligature remainder (operation / 2 % 2 == 1) (operation % 2 == 1) (operation / 4)
+    else ligature_of (counted_as operation) remainder
 
 -- a step: skip, next character, operation and remainder. A skip of 128 or more ends a program, and a step whose skip is
 -- above 128 is never carried out.

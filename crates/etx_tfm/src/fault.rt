@@ -18,7 +18,8 @@ pub enum Damage {
     Header,
     /// A character's word leads to nothing, or a list of greater and greater characters comes round.
     Char,
-    /// A dimension is 16 times the size or more, or the first width, height, depth or italic correction isn't 0.
+    /// A dimension is 16 times the size or more, or the first width, height, depth or italic correction doesn't come to
+    /// 0sp at the size.
     Dimension,
     /// A step of the programs of ligatures and kerns leads to nothing.
     LigKern,

@@ -1,9 +1,9 @@
 //! Ligatures and kerns of a run of characters.
-ghost use Rattle.std.specs.Prelude.{◌≡◌, ◌+◌, ◌++◌, ◌∷◌, [], List, OnOk, IfOk, ◌≤◌};
+ghost use Rattle.std.specs.Prelude.{◌≡◌, ◌++◌, ◌∷◌, [], List, OnOk, IfOk};
 ghost use Rattle.etx_matter.specs.declared.node.Node.{Node};
-ghost use Rattle.etx_tfm.specs.Machine.{size_by, size_of, number_at, nodes_of, kern_of, place, passed, kept, passes_of, item_if, made_of, stepped, Rewrites, ComesTo, edged};
+ghost use Rattle.etx_tfm.specs.Machine.{size_by, size_of, number_at, is_end, no_edges, nodes_of, edges_behind, kern_of, place, passed, item_if, made_of, stepped, Rewrites, ComesTo, edged};
 
-use crate::piece::{Piece, made_of};
+use crate::piece::{Edges, Piece, made_of};
 use crate::program::action_between;
 use etx_lists::Listed;
 use etx_matter::{
@@ -43,9 +43,38 @@ fn size_of(font: &FontInfo, code: u8) -> CharSize
     }
 }
 
-/// Writes the item that the cursor passes.
-fn write(font: &Font, piece: Piece, out: &mut Nodes) -> Result<(), AllocError>
-    ensures { OnOk result (out.new ≡ out.old ++ nodes_of font.now piece) }
+/// Whether nothing follows but the right edge of the word.
+fn is_end(rest: &VecDeque<Piece>) -> bool
+    ensures { result ≡ is_end rest.now.items }
+{
+    match rest.front() {
+        Some(piece) => piece.is_right_edge(),
+        None => true,
+    }
+}
+
+/// The edges of which no node has told when an item is written.
+fn edges_behind(edges: Edges, ends: bool, piece: &Piece) -> Edges
+    ensures { result ≡ edges_behind edges ends piece.now }
+{
+    match piece {
+        Piece::LeftEdge | Piece::RightEdge | Piece::Letter(_) => edges,
+        Piece::Made { .. } => Edges {
+            left: false,
+            right: edges.right && !ends,
+        },
+    }
+}
+
+/// Writes an item, which is the last one of the word if it `ends` it.
+fn write_node(
+    font: &Font,
+    edges: Edges,
+    ends: bool,
+    piece: Piece,
+    out: &mut Nodes,
+) -> Result<(), AllocError>
+    ensures { OnOk result (out.new ≡ out.old ++ nodes_of font.now edges ends piece) }
 {
     match piece {
         Piece::LeftEdge | Piece::RightEdge => Ok(()),
@@ -54,20 +83,31 @@ fn write(font: &Font, piece: Piece, out: &mut Nodes) -> Result<(), AllocError>
             code,
             size: size_of(font.info(), code),
         }),
-        Piece::Made {
-            code,
-            letters,
-            left,
-            right,
-        } => out.push(Node::Lig {
+        Piece::Made { code, letters } => out.push(Node::Lig {
             font: font.number(),
             code,
             size: size_of(font.info(), code),
             letters,
-            left,
-            right,
+            left: edges.left,
+            right: edges.right && ends,
         }),
     }
+}
+
+/// Writes the item that the cursor passes.
+fn write(
+    font: &Font,
+    ends: bool,
+    piece: Piece,
+    out: &mut Nodes,
+    edges: &mut Edges,
+) -> Result<(), AllocError>
+    ensures nodes { OnOk result (out.new ≡ out.old ++ nodes_of font.now edges.old ends piece) }
+    ensures edges { edges.new ≡ edges_behind edges.old ends piece }
+{
+    let told = *edges;
+    *edges = edges_behind(told, ends, &piece);
+    write_node(font, told, ends, piece, out)
 }
 
 fn write_kern(font: &Font, place: u16, out: &mut Nodes) -> Result<(), AllocError>
@@ -85,30 +125,21 @@ fn pass(
     font: &Font,
     count: u8,
     out: &mut Nodes,
+    edges: &mut Edges,
     rest: &mut VecDeque<Piece>,
 ) -> Result<(), AllocError>
-    ensures { OnOk result (place out.new rest.new.items ≡ passed font.now count out.old rest.old.items) }
+    ensures { OnOk result (place out.new edges.new rest.new.items ≡ passed font.now count out.old edges.old rest.old.items) }
 {
     for _ in 0..count {
         match rest.pop_front() {
-            Some(piece) => write(font, piece, out)?,
+            Some(piece) => {
+                let ends = is_end(rest);
+                write(font, ends, piece, out, edges)?;
+            }
             None => return Ok(()),
         }
     }
     Ok(())
-}
-
-fn kept(stays: bool) -> u8
-    ensures value { result ≡ kept stays }
-    ensures small { result ≤ 1 }
-{
-    if stays { 1 } else { 0 }
-}
-
-fn passes_of(passes: u8, keeps_current: bool, keeps_next: bool) -> u8
-    ensures { result ≡ passes_of passes keeps_current keeps_next }
-{
-    passes.min(kept(keeps_current) + kept(keeps_next))
 }
 
 /// Puts an item that stays back, in front of the others.
@@ -129,18 +160,21 @@ fn step(
     current: Piece,
     next: Piece,
     out: &mut Nodes,
+    edges: &mut Edges,
     rest: &mut VecDeque<Piece>,
 ) -> Result<(), AllocError>
-    ensures { OnOk result (place out.new rest.new.items ≡ stepped font.now out.old current next rest.old.items) }
+    ensures { OnOk result (place out.new edges.new rest.new.items ≡ stepped font.now out.old edges.old current next rest.old.items) }
 {
     match action_between(font.info(), current.item(), next.item()) {
         None => {
+            let ends = next.is_right_edge();
             rest.push_front(next)?;
-            write(font, current, out)
+            write(font, ends, current, out, edges)
         }
         Some(PairAction::Kern(kern)) => {
+            let ends = next.is_right_edge();
             rest.push_front(next)?;
-            write(font, current, out)?;
+            write(font, ends, current, out, edges)?;
             write_kern(font, kern, out)
         }
         Some(
@@ -151,16 +185,12 @@ fn step(
                 passes,
             },
         ) => {
+            *edges = edges.with_those_of(&current, &next);
             let made = made_of(alloc, &current, &next, code, keeps_current, keeps_next)?;
             put_if(keeps_next, next, rest)?;
             rest.push_front(made)?;
             put_if(keeps_current, current, rest)?;
-            pass(
-                font,
-                passes_of(passes, keeps_current, keeps_next),
-                out,
-                rest,
-            )
+            pass(font, passes, out, edges, rest)
         }
     }
 }
@@ -190,6 +220,9 @@ fn edged(
 /// The nodes that a run of characters becomes: characters, ligatures and kerns, by the programs of the font. With `left`
 /// the run begins at the beginning of a word, with `right` it ends at the end of one.
 ///
+/// A ligature has `left` or `right` where that edge of the word took part in it, whether the edge stayed or not ("TeX: The
+/// Program", sections 143 and 1035 to 1040).
+///
 /// A character that doesn't exist in the font stays as it is, with no program and no size. `Err` comes only where memory
 /// is wanting, or after 2^64 - 1 steps.
 pub fn ligkern(
@@ -199,19 +232,23 @@ pub fn ligkern(
     left: bool,
     right: bool,
 ) -> Result<Nodes, AllocError>
-    ensures { IfOk result (λ nodes. Rewrites font.now [] (edged chars.now left right) nodes) }
+    ensures { IfOk result (λ nodes. Rewrites font.now [] no_edges (edged chars.now left right) nodes) }
 {
     let mut rest = edged(alloc, chars, left, right)?;
     let mut out = Nodes::new(alloc);
+    let mut edges = Edges {
+        left: false,
+        right: false,
+    };
     for _ in 0..u64::MAX {
         match rest.pop_front() {
             None => return Ok(out),
             Some(current) => match rest.pop_front() {
                 None => {
-                    write(font, current, &mut out)?;
+                    write(font, true, current, &mut out, &mut edges)?;
                     return Ok(out);
                 }
-                Some(next) => step(alloc, font, current, next, &mut out, &mut rest)?,
+                Some(next) => step(alloc, font, current, next, &mut out, &mut edges, &mut rest)?,
             },
         }
     }

@@ -1,7 +1,7 @@
 //! The items of the list that ligatures rewrite.
 ghost use Rattle.std.specs.Prelude.{◌≡◌, ◌++◌, OnOk, IfOk};
 ghost use Rattle.etx_matter.specs.Ligatures.{action_between};
-ghost use Rattle.etx_tfm.specs.Machine.{item_of, letters_of, has_left_edge, has_right_edge, letters_unless, edge_unless, made_of};
+ghost use Rattle.etx_tfm.specs.Machine.{item_of, letters_of, is_left_edge, is_right_edge, letters_unless, edges_with, made_of};
 
 use etx_lists::Bytes;
 use etx_matter::LigItem;
@@ -16,13 +16,8 @@ pub enum Piece {
     RightEdge,
     /// A character of the word.
     Letter(u8),
-    /// A ligature: its code, the letters for which it stands, and whether the edges are part of it.
-    Made {
-        code: u8,
-        letters: Bytes,
-        left: bool,
-        right: bool,
-    },
+    /// A ligature: its code, and the letters for which it stands.
+    Made { code: u8, letters: Bytes },
 }
 
 impl Piece {
@@ -37,23 +32,22 @@ impl Piece {
         }
     }
 
-    fn has_left_edge(&self) -> bool
-        ensures { result ≡ has_left_edge self.now }
+    fn is_left_edge(&self) -> bool
+        ensures { result ≡ is_left_edge self.now }
     {
         match self {
             Piece::LeftEdge => true,
-            Piece::RightEdge | Piece::Letter(_) => false,
-            Piece::Made { left, .. } => *left,
+            Piece::RightEdge | Piece::Letter(_) | Piece::Made { .. } => false,
         }
     }
 
-    fn has_right_edge(&self) -> bool
-        ensures { result ≡ has_right_edge self.now }
+    /// Whether it is what stands behind the last character.
+    pub fn is_right_edge(&self) -> bool
+        ensures { result ≡ is_right_edge self.now }
     {
         match self {
             Piece::RightEdge => true,
-            Piece::LeftEdge | Piece::Letter(_) => false,
-            Piece::Made { right, .. } => *right,
+            Piece::LeftEdge | Piece::Letter(_) | Piece::Made { .. } => false,
         }
     }
 
@@ -79,10 +73,24 @@ impl Piece {
     }
 }
 
-fn edge_unless(stays: bool, edge: bool) -> bool
-    ensures { result ≡ edge_unless stays edge }
-{
-    if stays { false } else { edge }
+/// Which edges of the word took part in a ligature of which no node has told yet: `lft_hit` and `rt_hit` of TeX.
+#[derive(Clone, Copy, Debug, PartialEq, Eq)]
+pub struct Edges {
+    pub left: bool,
+    pub right: bool,
+}
+
+impl Edges {
+    /// With those that take part in a ligature between these items.
+    pub fn with_those_of(self, current: &Piece, next: &Piece) -> Edges
+        ensures { result ≡ edges_with self current.now next.now }
+    {
+        let at_left = current.is_left_edge();
+        Edges {
+            left: self.left || at_left,
+            right: self.right || !at_left && next.is_right_edge(),
+        }
+    }
 }
 
 /// The ligature `code` between two items, each of which stays or not.
@@ -99,14 +107,5 @@ pub fn made_of(
     let mut letters = Bytes::new(alloc);
     current.add_letters_unless(keeps_current, &mut letters)?;
     next.add_letters_unless(keeps_next, &mut letters)?;
-    let left = edge_unless(keeps_current, current.has_left_edge())
-        || edge_unless(keeps_next, next.has_left_edge());
-    let right = edge_unless(keeps_current, current.has_right_edge())
-        || edge_unless(keeps_next, next.has_right_edge());
-    Ok(Piece::Made {
-        code,
-        letters,
-        left,
-        right,
-    })
+    Ok(Piece::Made { code, letters })
 }

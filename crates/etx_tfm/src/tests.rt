@@ -168,6 +168,13 @@ fn the_left_edge_has_a_program(rt: HostRuntime) -> Result<(), Fail> {
     let nodes = ligkern(rt.alloc(), &font, b"ab", true, false)?;
     assert!(rt; nodes.len() == 2);
     assert!(rt; is_star(&nodes, 0, b"a", (true, false)));
+    // an edge that stays took part, too
+    let staying = font_with(
+        rt.alloc(),
+        &[(17, 2), (23, 6), (389, 97), (390, 2), (392, 255)],
+    )?;
+    let marked = ligkern(rt.alloc(), &staying, b"ab", true, false)?;
+    assert!(rt; is_star(&marked, 0, b"a", (true, false)));
     let inside = ligkern(rt.alloc(), &font, b"ab", false, false)?;
     assert!(rt; is_letter(&inside, 0, b'a', 327_680));
     Ok(())

@@ -1,6 +1,6 @@
 //! The words of a TFM file, and what each says.
 ghost use Rattle.std.specs.Prelude.{◌≡◌, ◌<◌, IfOk};
-ghost use Rattle.etx_tfm.specs.Words.{words_of, tag_of, char_of, action_of, step_of, part_of, recipe_of};
+ghost use Rattle.etx_tfm.specs.Words.{words_of, tag_of, char_of, is_lawful, counted_as, ligature_of, action_of, step_of, part_of, recipe_of};
 
 use etx_matter::{CharInfo, CharTag, LigStep, PairAction, Recipe};
 use std::alloc::{AllocError, Global};
@@ -60,18 +60,38 @@ pub fn char_of(word: Word) -> CharInfo
     }
 }
 
+/// Whether an operation below 128 has a meaning.
+fn is_lawful(operation: u8) -> bool
+    ensures { result ≡ is_lawful operation }
+{
+    operation <= 3 || operation >= 5 && operation <= 7 || operation == 11
+}
+
+/// The operation as which it is carried out: one without a meaning counts as 0 ("TeX: The Program", section 1040).
+fn counted_as(operation: u8) -> u8
+    ensures { result ≡ counted_as operation }
+{
+    if is_lawful(operation) { operation } else { 0 }
+}
+
+fn ligature_of(operation: u8, code: u8) -> PairAction
+    ensures { result ≡ ligature_of operation code }
+{
+    PairAction::Ligature {
+        code,
+        keeps_current: operation / 2 % 2 == 1,
+        keeps_next: operation % 2 == 1,
+        passes: operation / 4,
+    }
+}
+
 fn action_of(operation: u8, remainder: u8) -> PairAction
     ensures { result ≡ action_of operation remainder }
 {
     if operation >= 128 {
         return PairAction::Kern(u16::from(operation - 128) * 256 + u16::from(remainder));
     }
-    PairAction::Ligature {
-        code: remainder,
-        keeps_current: operation / 2 % 2 == 1,
-        keeps_next: operation % 2 == 1,
-        passes: operation / 4,
-    }
+    ligature_of(counted_as(operation), remainder)
 }
 
 /// A word of the programs of ligatures and kerns.
