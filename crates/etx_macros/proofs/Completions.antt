@@ -1,14 +1,14 @@
 -- Tokens with which what was fed becomes a call.
-use Rattle.std.proofs.Common.{◌≡◌, ℕ, zero, suc, ◌<◌, ◌+◌, ◌-◌, Bool, true, false, List, [], ◌∷◌, ◌++◌, Some, None, ◌⊎◌, inl, inr, length, get_or, take, drop, refl, sym, ap, subst, ◌∙◌, arith}
+use Rattle.std.proofs.Common.{◌≡◌, ℕ, zero, suc, ◌<◌, ◌+◌, Bool, true, false, List, [], ◌∷◌, ◌++◌, Some, ◌⊎◌, inl, inr, length, get_or, take, drop, refl, sym, ap, subst, ◌∙◌, arith}
 use Rattle.std.specs.Prelude.{All}
 use Rattle.std.proofs.lemmas.List.{append-nil, append_assoc, append_cancel_left, length-append, length-drop, length-take-le, take-append-drop, take_at}
-use Rattle.std.proofs.lemmas.Bool.{false≢true, cases_lt}
+use Rattle.std.proofs.lemmas.Bool.{cases_lt}
 use Rattle.std.proofs.lemmas.List.Elements.{All-get_or}
 use Rattle.etx_matter.specs.declared.token.Token.{Token}
 use Rattle.etx_matter.specs.declared.token.Token.TheVariants.{Char}
 use Rattle.etx_macros.specs.declared.fault.Fed.{Fed}
 use Rattle.etx_macros.specs.declared.fault.Fed.TheVariants.{More, Done, Fault}
-use Rattle.etx_macros.specs.Marks.{has_category, is_par, depth_of, IsBalanced, IsDelimiter}
+use Rattle.etx_macros.specs.Marks.{is_par, depth_of, IsBalanced, IsDelimiter}
 use Rattle.etx_macros.specs.Calls.{IsGroup, Gives, ParsAreAllowed, AreSpaces, IsDelimited, IsArgument, MatchesCall, with_argument, Begins}
 use Rattle.etx_macros.specs.Within.{InGroup, InDelimited, Within}
 use Rattle.etx_macros.specs.State.{MatcherState}

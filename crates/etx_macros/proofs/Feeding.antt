@@ -1,5 +1,5 @@
 -- What is said of a token is true of the tokens that were fed.
-use Rattle.std.proofs.Common.{◌≡◌, ℕ, zero, suc, ◌<◌, ◌≤◌, ◌+◌, ◌-◌, min, Bool, true, false, not, ◌&&◌, eqb, cond, List, [], ◌∷◌, ◌++◌, Option, Some, Result, Ok, Err, ◌⊎◌, inl, inr, length, get_or, take, drop, refl, sym, ap, subst, ◌∙◌, arith}
+use Rattle.std.proofs.Common.{◌≡◌, ℕ, zero, suc, ◌<◌, ◌≤◌, ◌+◌, ◌-◌, min, Bool, true, false, not, ◌&&◌, eqb, cond, List, [], ◌∷◌, ◌++◌, Result, Ok, Err, ◌⊎◌, inl, inr, length, get_or, take, drop, refl, sym, ap, subst, ◌∙◌, arith}
 use Rattle.std.specs.Prelude.{nat_lt, All}
 use Rattle.std.proofs.lemmas.Bool.{false≢true, eqb-true, eqb-false, ltb-true, lt-ltb}
 use Rattle.std.proofs.lemmas.Option.{slice_get_within}
@@ -9,7 +9,7 @@ use Rattle.etx_matter.specs.declared.token.Token.{Token}
 use Rattle.etx_macros.specs.declared.argument.Turn.{Turn}
 use Rattle.etx_macros.specs.declared.argument.Turn.TheVariants as turn
 use Rattle.etx_macros.specs.declared.fault.Fed.{Fed}
-use Rattle.etx_macros.specs.declared.fault.Fed.TheVariants.{More, Done, Fault}
+use Rattle.etx_macros.specs.declared.fault.Fed.TheVariants.{More, Done}
 use Rattle.etx_macros.specs.declared.fault.MatchFault.{MatchFault}
 use Rattle.etx_macros.specs.declared.fault.MatchFault.TheVariants.{DoesNotMatch}
 use Rattle.etx_macros.specs.Marks.{IsDelimiter}
@@ -17,8 +17,8 @@ use Rattle.etx_macros.specs.Calls.{Gives, MatchesCall}
 use Rattle.etx_macros.specs.Matching.{IsLongest, undelimited_turn, delimited_turn}
 use Rattle.etx_macros.specs.State.{MatcherState, FedBy}
 use Rattle.etx_macros.specs.Feeding.{argument_of, longest, matched_in, has_at, part_of, more, ended, refused, text_fed, undelimited_fed, delimited_kept, delimited_fed, argument_fed, part_fed, fed_of, is_going, Makes}
-use Rattle.etx_macros.specs.Progress.{InText, InArgument, IsGoing, IsAfter, Comes, Means, Stands, KeepsPattern}
-use Rattle.etx_macros.proofs.Tests.{at_there, at_back, longest_is}
+use Rattle.etx_macros.specs.Progress.{InText, InArgument, IsGoing, IsAfter, Comes, Means, Stands}
+use Rattle.etx_macros.proofs.Comparing.{at_there, at_back, longest_is}
 use Rattle.etx_macros.proofs.Groups.{argument_gives}
 use Rattle.etx_macros.proofs.Turns.{undelimited_fault, delimited_fault}
 use Rattle.etx_macros.proofs.Turns as turns

@@ -1,10 +1,9 @@
 -- The argument that a text gives.
-use Rattle.std.proofs.Common.{◌≡◌, ℕ, zero, suc, ◌≤◌, ◌-◌, Bool, true, false, ◌&&◌, cond, List, [], ◌∷◌, Option, Some, None, ◌⊎◌, inl, inr, length, get_or, refl, sym, ap, ◌∙◌, arith}
-use Rattle.std.specs.Bool.{MatchBool}
+use Rattle.std.proofs.Common.{◌≡◌, ℕ, zero, suc, ◌≤◌, ◌-◌, Bool, true, false, ◌&&◌, cond, List, [], ◌∷◌, Option, Some, None, inl, inr, length, get_or, refl, sym, ap, ◌∙◌, arith}
 use Rattle.std.proofs.lemmas.Bool.{false≢true}
 use Rattle.etx_matter.specs.declared.token.Token.{Token}
 use Rattle.etx_matter.specs.declared.token.Token.TheVariants.{Char}
-use Rattle.etx_macros.specs.Marks.{has_category, depth_of, IsBalanced}
+use Rattle.etx_macros.specs.Marks.{has_category, depth_of}
 use Rattle.etx_macros.specs.Calls.{IsGroup, inner_of, Gives}
 use Rattle.etx_macros.specs.Feeding.{is_zero, is_group, argument_of}
 use Rattle.etx_macros.proofs.Depths.{group_opens, group_closes, group_inside, group_from}

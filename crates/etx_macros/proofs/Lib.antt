@@ -9,7 +9,7 @@ pub mod Groups
 pub mod Refusals
 pub mod Runs
 pub mod Steps
-pub mod Tests
+pub mod Comparing
 pub mod Texts
 pub mod Turns
 pub mod Unique

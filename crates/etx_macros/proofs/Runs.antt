@@ -1,5 +1,5 @@
 -- What is said of one token after another.
-use Rattle.std.proofs.Common.{◌≡◌, ℕ, suc, ◌<◌, ◌+◌, ◌-◌, Bool, true, false, ◌&&◌, eqb, cond, List, [], ◌∷◌, ◌++◌, Option, Some, None, Result, Ok, Err, ◌⊎◌, inl, inr, length, take, refl, sym, ap, subst, ◌∙◌, arith}
+use Rattle.std.proofs.Common.{◌≡◌, ℕ, ◌<◌, ◌+◌, ◌-◌, Bool, true, false, ◌&&◌, eqb, cond, List, [], ◌∷◌, ◌++◌, Some, None, Result, Ok, Err, ◌⊎◌, inl, inr, length, take, refl, sym, subst, ◌∙◌, arith}
 use Rattle.std.specs.Prelude.{nat_lt, All, ◌↔◌}
 use Rattle.std.proofs.lemmas.Bool.{false≢true, eqb-true, eqb-false, eq-eqb, ltb-true, lt-ltb}
 use Rattle.std.proofs.lemmas.List.{append-nil, append_assoc}
@@ -14,16 +14,16 @@ use Rattle.etx_macros.specs.declared.fault.MatchFault.TheVariants.{DoesNotMatch,
 use Rattle.etx_macros.specs.Marks.{has_category, IsDelimiter, IsPattern}
 use Rattle.etx_macros.specs.Calls.{MatchesCall}
 use Rattle.etx_macros.specs.Says.{Says}
-use Rattle.etx_macros.specs.Matching.{undelimited_turn, delimited_turn, said_at}
+use Rattle.etx_macros.specs.Matching.{undelimited_turn, delimited_turn}
 use Rattle.etx_macros.specs.State.{MatcherState, FedBy}
 use Rattle.etx_macros.specs.Feeding.{argument_of, matched_in, has_at, part_of, more, ended, refused, text_fed, undelimited_fed, delimited_kept, argument_fed, part_fed, fed_of, is_going, after, started, is_extra}
-use Rattle.etx_macros.specs.Progress.{InArgument, IsGoing, IsAfter, IsWhole, Comes, Stands}
+use Rattle.etx_macros.specs.Progress.{IsGoing, IsAfter, IsWhole, Comes, Stands}
 use Rattle.etx_macros.proofs.Answers.{one_answer}
 use Rattle.etx_macros.proofs.Completions.{means}
 use Rattle.etx_macros.proofs.Refusals.{undelimited_refused, delimited_refused}
 use Rattle.etx_macros.proofs.Steps.{in_argument, starts_fresh}
 use Rattle.etx_macros.proofs.Turns.{undelimited_fault, delimited_fault}
-use Rattle.etx_macros.proofs.Feeding.{By, fed_by, fed_stays, going_there, goes, empty_or_not}
+use Rattle.etx_macros.proofs.Feeding.{By, fed_by, fed_stays, going_there, empty_or_not}
 
 -- where more tokens are wanted, these were fed so far
 comes_after : (fed : Fed) (m : MatcherState) (call : List Token) → Comes fed m call → Stands fed m → IsGoing m → IsAfter m call

@@ -1,11 +1,11 @@
 -- What a token makes of the match of a call ("TeX: The Program", sections 391 to 401).
-use Rattle.std.specs.Prelude.{◌≡◌, ℕ, zero, suc, ◌+◌, ◌-◌, min, nat_lt, Bool, true, false, not, ◌&&◌, List, [], ◌∷◌, ◌++◌, length, take, drop, slice_get, slice_index_or, Option, Some, None, Result, Ok, Err, ◌==◌, if◌then◌else◌}
+use Rattle.std.specs.Prelude.{◌≡◌, ℕ, zero, suc, ◌+◌, ◌-◌, min, nat_lt, Bool, true, false, not, ◌&&◌, List, [], ◌∷◌, ◌++◌, length, take, slice_get, slice_index_or, Option, Some, None, Result, Ok, Err, ◌==◌, if◌then◌else◌}
 use Rattle.etx_matter.specs.declared.token.Token.{Token}
 use Rattle.etx_matter.specs.declared.token.Token.TheVariants.{Char}
 use Rattle.etx_macros.specs.declared.argument.Turn.{Turn}
 use Rattle.etx_macros.specs.declared.argument.Turn.TheVariants as turn
 use Rattle.etx_macros.specs.declared.fault.Fed.{Fed}
-use Rattle.etx_macros.specs.declared.fault.Fed.TheVariants.{More, Done, Fault}
+use Rattle.etx_macros.specs.declared.fault.Fed.TheVariants.{More, Fault}
 use Rattle.etx_macros.specs.declared.fault.MatchFault.{MatchFault}
 use Rattle.etx_macros.specs.declared.fault.MatchFault.TheVariants.{DoesNotMatch}
 use Rattle.etx_macros.specs.Marks.{has_category, depth_of, same_token, ends_with}

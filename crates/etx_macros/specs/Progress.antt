@@ -1,5 +1,5 @@
 -- How far the match of a call has come.
-use Rattle.std.specs.Prelude.{ℕ, ◌+◌, ◌<◌, Bool, true, false, List, [], ◌∷◌, ◌++◌, ◌≡◌, ◌⊎◌, length, take, slice_index_or}
+use Rattle.std.specs.Prelude.{ℕ, ◌<◌, Bool, true, false, List, [], ◌++◌, ◌≡◌, ◌⊎◌, length, take, slice_index_or}
 use Rattle.etx_matter.specs.declared.token.Token.{Token}
 use Rattle.etx_macros.specs.declared.fault.Fed.{Fed}
 use Rattle.etx_macros.specs.declared.fault.Fed.TheVariants.{More, Done, Fault}

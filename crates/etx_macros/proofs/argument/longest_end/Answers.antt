@@ -1,6 +1,6 @@
 use Rattle.std.proofs.Common.{◌≡◌, ◌≤◌, sym, subst, ℕ, length, ◌∙◌, arith}
 use Rattle.etx_macros.specs.Feeding.{longest}
-use Rattle.etx_macros.proofs.Tests.{longest_found, longest_step, longest_zero, longest_short}
+use Rattle.etx_macros.proofs.Comparing.{longest_found, longest_step, longest_zero, longest_short}
 use Rattle.etx_macros.proofs.argument.longest_end.Goals as goal
 
 pub loop-count-preserved : goal.loop-count-preserved

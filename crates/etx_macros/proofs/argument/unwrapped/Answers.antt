@@ -1,6 +1,5 @@
 use Rattle.std.proofs.Common.{◌≡◌, IfOk, List, sym, subst}
 use Rattle.etx_matter.specs.declared.token.Token.{Token}
-use Rattle.etx_macros.specs.Calls.{inner_of}
 use Rattle.etx_macros.proofs.Groups.{argument_inside, argument_whole}
 use Rattle.etx_macros.proofs.argument.unwrapped.Goals as goal
 

@@ -1,6 +1,6 @@
 use Rattle.std.proofs.Common.{rules}
 use Rattle.std.proofs.lemmas.Slice.Eq.{ends_is}
-use Rattle.etx_macros.proofs.Tests.{same_test, ends_there, ends_back}
+use Rattle.etx_macros.proofs.Comparing.{same_test, ends_there, ends_back}
 use Rattle.etx_macros.proofs.mark.ends_with.Goals as goal
 
 pub returns : goal.returns

@@ -1,5 +1,5 @@
 -- What is said of the tokens is true.
-use Rattle.std.proofs.Common.{◌≡◌, ◌++◌, ◌∷◌, [], List}
+use Rattle.std.proofs.Common.{◌++◌, ◌∷◌, [], List}
 use Rattle.etx_matter.specs.declared.token.Token.{Token}
 use Rattle.etx_macros.specs.Feeding.{fed_of, Makes}
 use Rattle.etx_macros.specs.Seen.{state_of}
