@@ -1,5 +1,5 @@
 -- What a mouth waits for.
-use Rattle.std.proofs.Common.{◌≡◌, ℕ, List, [], ◌∷◌, refl}
+use Rattle.std.proofs.Common.{◌≡◌, ℕ, List, [], ◌∷◌, refl, arith}
 use Rattle.etx_state.specs.declared.scan.Entry.{Entry}
 use Rattle.etx_state.specs.States.{Mouth}
 use Rattle.etx_expand.specs.Measure.{weight}
@@ -20,7 +20,7 @@ waiting_spent m = spent_by m.scans m
 
 -- and adds no weight
 weight_by : (es : List Entry) (m : Mouth) → weight (waiting_by es m) ≡ weight m
-weight_by [] m = refl
+weight_by [] m = omega arith
 weight_by (e ∷ es) m = refl
 
 pub waiting_weight : (m : Mouth) → weight (waiting m) ≡ weight m

@@ -227,7 +227,7 @@ fn primitive(s: &mut State, primitive: Primitive, token: Token) -> Result<Move, 
 
 /// Carries out a token that isn't expanded.
 #[tactic(auto, unfolding(crate::specs::Commands::command_row))]
-pub fn command(s: &mut State, token: Token, meaning: &Meaning) -> Result<Move, AllocError>
+pub fn carry_out(s: &mut State, token: Token, meaning: &Meaning) -> Result<Move, AllocError>
     ensures now { OnOk result (mouth_of s.new ≡ with_values (command_row token meaning.now (mouth_of s.old).values).values (mouth_of s.old)) }
     ensures go { IfOk result (λ go. go ≡ (command_row token meaning.now (mouth_of s.old).values).go) }
 {
@@ -248,6 +248,6 @@ pub fn behind_spaces(s: &mut State, token: Token, meaning: &Meaning) -> Result<M
     if has_category(10, meaning) {
         Ok(Move::Stay(Scan::IgnoreSpaces, Push::Nothing))
     } else {
-        command(s, token, meaning)
+        carry_out(s, token, meaning)
     }
 }

@@ -7,7 +7,7 @@ ghost use Rattle.etx_outside.specs.Loading.{load_of};
 ghost use Rattle.etx_outside.specs.Outside.{Outside, outside_of, after, Front, Faults, faults_of, NoneFell, WriteRose};
 ghost use Rattle.etx_settle.specs.Deeds.{JournalState, AllOpen, first_pen};
 ghost use Rattle.etx_job.specs.Errors.{is_error};
-ghost use Rattle.etx_job.specs.Mouths.{MouthState};
+ghost use Rattle.etx_job.specs.Mouths.{MouthState, state_of};
 ghost use Rattle.etx_job.specs.Measure.{GoesOn, IsNoMore};
 ghost use Rattle.etx_job.specs.Words.{log_name};
 ghost use Rattle.etx_job.specs.Chain.{Start, printed, last_line, closing_by, reason_of, closing_fatally, full_text, closing_full, closing};
@@ -217,16 +217,16 @@ fn ask<F: Tree, T: Terminal>(
 ) -> Result<(), Fault>
     requires { AllOpen (F.is_open tree.old) journal.old.pen.created }
     ensures going { OnOk result (F.tells → T.tells → (start : Start) (first : Outside) (errors : ℕ) → IsFor start first →
-        Asks start first mouth.old errors journal.old name.now (outside_of F.files F.asked T.text tree.old terminal.old)
-        → Going start first mouth.new errors journal.new (outside_of F.files F.asked T.text tree.new terminal.new)) }
+        Asks start first (state_of mouth.old) errors journal.old name.now (outside_of F.files F.asked T.text tree.old terminal.old)
+        → Going start first (state_of mouth.new) errors journal.new (outside_of F.files F.asked T.text tree.new terminal.new)) }
     ensures cut { F.tells → T.tells → (start : Start) (first : Outside) (errors : ℕ) → IsFor start first →
-        Asks start first mouth.old errors journal.old name.now (outside_of F.files F.asked T.text tree.old terminal.old)
+        Asks start first (state_of mouth.old) errors journal.old name.now (outside_of F.files F.asked T.text tree.old terminal.old)
         → Cut start first (outside_of F.files F.asked T.text tree.new terminal.new) }
     ensures read_at { IsErrOf result Fault.ReadFault → F.tells → T.tells → (start : Start) (first : Outside) (errors : ℕ) →
-        Asks start first mouth.old errors journal.old name.now (outside_of F.files F.asked T.text tree.old terminal.old)
+        Asks start first (state_of mouth.old) errors journal.old name.now (outside_of F.files F.asked T.text tree.old terminal.old)
         → AtAsk start first (outside_of F.files F.asked T.text tree.new terminal.new) }
     ensures opened { OnOk result (AllOpen (F.is_open tree.new) journal.new.pen.created) }
-    ensures no_more { OnOk result (IsNoMore mouth.old mouth.new) }
+    ensures no_more { OnOk result (IsNoMore (state_of mouth.old) (state_of mouth.new)) }
     ensures later { NoneFell (faults_of F.faults T.faults tree.old terminal.old) (faults_of F.faults T.faults tree.new terminal.new) }
     ensures read_cause { IsErrOf result Fault.ReadFault → Rose (faults_of F.faults T.faults tree.old terminal.old).reads (faults_of F.faults T.faults tree.new terminal.new).reads }
     ensures write_cause { IsErrOf result Fault.WriteFault → WriteRose (faults_of F.faults T.faults tree.old terminal.old) (faults_of F.faults T.faults tree.new terminal.new) }
@@ -252,21 +252,21 @@ fn turn<F: Tree, T: Terminal>(
     terminal: &mut T,
 ) -> Result<Option<End>, Fault>
     requires open { AllOpen (F.is_open tree.old) journal.old.pen.created }
-    requires room { mouth.old.machine.spent + 3 < 2 ^ 64 }
+    requires room { (state_of mouth.old).machine.spent + 3 < 2 ^ 64 }
     requires few { errors.old < 100 }
     ensures going { IfOk result (λ end. F.tells → T.tells → (start : Start) (first : Outside) → IsFor start first → start.job.budget ≡ budget →
-        Going start first mouth.old errors.old journal.old (outside_of F.files F.asked T.text tree.old terminal.old)
-        → AfterTurn end start first mouth.new errors.new journal.new (outside_of F.files F.asked T.text tree.new terminal.new)) }
+        Going start first (state_of mouth.old) errors.old journal.old (outside_of F.files F.asked T.text tree.old terminal.old)
+        → AfterTurn end start first (state_of mouth.new) errors.new journal.new (outside_of F.files F.asked T.text tree.new terminal.new)) }
     ensures cut { F.tells → T.tells → (start : Start) (first : Outside) → IsFor start first → start.job.budget ≡ budget →
-        Going start first mouth.old errors.old journal.old (outside_of F.files F.asked T.text tree.old terminal.old)
+        Going start first (state_of mouth.old) errors.old journal.old (outside_of F.files F.asked T.text tree.old terminal.old)
         → Cut start first (outside_of F.files F.asked T.text tree.new terminal.new) }
     ensures read_at { IsErrOf result Fault.ReadFault → F.tells → T.tells → (start : Start) (first : Outside) → start.job.budget ≡ budget →
-        Going start first mouth.old errors.old journal.old (outside_of F.files F.asked T.text tree.old terminal.old)
+        Going start first (state_of mouth.old) errors.old journal.old (outside_of F.files F.asked T.text tree.old terminal.old)
         → AtAsk start first (outside_of F.files F.asked T.text tree.new terminal.new) }
     ensures opened { OnOk result (AllOpen (F.is_open tree.new) journal.new.pen.created) }
-    ensures within { IfOk result (λ end. end ≡ None → mouth.new.machine.spent ≤ budget) }
+    ensures within { IfOk result (λ end. end ≡ None → (state_of mouth.new).machine.spent ≤ budget) }
     ensures few { IfOk result (λ end. end ≡ None → errors.new < 100) }
-    ensures goes { IfOk result (λ end. end ≡ None → GoesOn mouth.old errors.old mouth.new errors.new) }
+    ensures goes { IfOk result (λ end. end ≡ None → GoesOn (state_of mouth.old) errors.old (state_of mouth.new) errors.new) }
     ensures later { NoneFell (faults_of F.faults T.faults tree.old terminal.old) (faults_of F.faults T.faults tree.new terminal.new) }
     ensures read_cause { IsErrOf result Fault.ReadFault → Rose (faults_of F.faults T.faults tree.old terminal.old).reads (faults_of F.faults T.faults tree.new terminal.new).reads }
     ensures write_cause { IsErrOf result Fault.WriteFault → WriteRose (faults_of F.faults T.faults tree.old terminal.old) (faults_of F.faults T.faults tree.new terminal.new) }

@@ -8,7 +8,7 @@ ghost use Rattle.etx_assign.specs.Turn.{planned_turn};
 ghost use Rattle.etx_job.specs.Commands.{command_row, ignore_row};
 ghost use Rattle.etx_job.specs.Machine.{waiting, taker_by, taker_at, taker_of, without_top, one_taken, list_taken, taken, by_turned, fitting, machine_turn};
 
-use crate::commands::{behind_spaces, command};
+use crate::commands::{behind_spaces, carry_out};
 use etx_assign::go;
 use etx_expand::{Move, Push, Turned, Value, make, said_text};
 use etx_matter::{End, Limit, Token, Tokens};
@@ -91,7 +91,7 @@ fn take_command(s: &mut State, token: Token, meaning: &Meaning) -> Result<Turned
     ensures now { OnOk result (mouth_of s.new ≡ (planned_turn token (command_row token meaning.now (mouth_of s.old).values) (mouth_of s.old)).now) }
     ensures turned { IfOk result (λ t. t ≡ (planned_turn token (command_row token meaning.now (mouth_of s.old).values) (mouth_of s.old)).turned) }
 {
-    let plan = command(s, token, meaning)?;
+    let plan = carry_out(s, token, meaning)?;
     make(s, token, plan)
 }
 

@@ -4,7 +4,7 @@ ghost use Rattle.etx_input.specs.Files.{unread};
 ghost use Rattle.etx_input.specs.Levels.{with_file};
 ghost use Rattle.etx_state.specs.States.{mouth_of, with_input};
 ghost use Rattle.etx_job.specs.Machine.{machine_turn};
-ghost use Rattle.etx_job.specs.Mouths.{mouth_at};
+ghost use Rattle.etx_job.specs.Mouths.{mouth_at, state_of};
 ghost use Rattle.etx_job.specs.Turn.{turn_of, first_mouth, line_number_of, yield_of, machine_turned, source_turn, cant_find, answered, source_resumed, resumed};
 ghost use Rattle.etx_job.specs.Measure.{Goes, IsNoMore};
 
@@ -17,7 +17,6 @@ use etx_matter::{Audience, Deed, End, FatalError, Job};
 use etx_outside::Loaded;
 use etx_state::State;
 use std::alloc::{AllocError, Global};
-use std::marker::Model;
 
 /// What the mouth reads from.
 #[derive(Drop)]
@@ -39,15 +38,6 @@ pub enum Source {
 pub struct Mouth {
     source: Source,
     state: State,
-}
-
-impl Model for Mouth {
-    ghost use Rattle.etx_state.specs.States.{mouth_of};
-    ghost use Rattle.etx_job.specs.Mouths.{MouthState};
-
-    ghost Value = { MouthState };
-
-    ghost view = { λ m. record { source = m.source; machine = mouth_of m.state } };
 }
 
 /// The text of the error that there is no file of this name.
@@ -155,7 +145,7 @@ impl Mouth {
     /// The mouth of INITEX, which is to read the main file of this job.
     #[tactic(auto, unfolding(crate::specs::Turn::first_mouth))]
     pub fn new(alloc: Global, job: Job) -> Result<Mouth, AllocError>
-        ensures { IfOk result (λ mouth. mouth ≡ first_mouth job.name) }
+        ensures { IfOk result (λ mouth. state_of mouth ≡ first_mouth job.name) }
     {
         let state = State::open(alloc, &job)?;
         Ok(Mouth {
@@ -167,14 +157,14 @@ impl Mouth {
     /// The number of the line that was read last, or 0.
     #[tactic(auto, unfolding(crate::specs::Turn::line_number_of))]
     pub fn line(&self) -> u32
-        ensures { result ≡ line_number_of self.now }
+        ensures { result ≡ line_number_of (state_of self.now) }
     {
         self.state.input.line()
     }
 
     /// How many steps were taken.
     pub fn spent(&self) -> u64
-        ensures { result ≡ self.now.machine.spent }
+        ensures { result ≡ (state_of self.now).machine.spent }
     {
         self.state.spent
     }
@@ -182,10 +172,10 @@ impl Mouth {
     /// Makes one turn. It ends the job, reports an error, takes a step, or makes the weight of what waits smaller. After an `Err`
     /// the mouth is only dropped.
     pub fn turn(&mut self) -> Result<Yield, AllocError>
-        requires { self.old.machine.spent + 3 < 2 ^ 64 }
-        ensures now { OnOk result (self.new ≡ (turn_of self.old).now) }
-        ensures did { IfOk result (λ did. did ≡ (turn_of self.old).did) }
-        ensures goes { IfOk result (λ did. Goes self.old (record { now = self.new; did = did })) }
+        requires { (state_of self.old).machine.spent + 3 < 2 ^ 64 }
+        ensures now { OnOk result (state_of self.new ≡ (turn_of (state_of self.old)).now) }
+        ensures did { IfOk result (λ did. did ≡ (turn_of (state_of self.old)).did) }
+        ensures goes { IfOk result (λ did. Goes (state_of self.old) (record { now = state_of self.new; did = did })) }
     {
         let did = self.go_on()?;
         Ok(did)
@@ -193,18 +183,25 @@ impl Mouth {
 
     #[tactic(auto, unfolding(crate::specs::Turn::turn_of))]
     fn go_on(&mut self) -> Result<Yield, AllocError>
-        requires { self.old.machine.spent + 3 < 2 ^ 64 }
-        ensures now { OnOk result (self.new ≡ (turn_of self.old).now) }
-        ensures did { IfOk result (λ did. did ≡ (turn_of self.old).did) }
+        requires { (state_of self.old).machine.spent + 3 < 2 ^ 64 }
+        ensures now { OnOk result (state_of self.new ≡ (turn_of (state_of self.old)).now) }
+        ensures did { IfOk result (λ did. did ≡ (turn_of (state_of self.old)).did) }
     {
         make_turn(&mut self.source, &mut self.state)
     }
 
     /// Takes the answer of a load. After an `Err` the mouth is only dropped.
-    #[tactic(auto, unfolding(crate::specs::Turn::resumed))]
     pub fn resume(&mut self, loaded: Loaded) -> Result<(), AllocError>
-        ensures now { OnOk result (self.new ≡ resumed self.old loaded) }
-        ensures no_more { OnOk result (IsNoMore self.old self.new) }
+        ensures now { OnOk result (state_of self.new ≡ resumed (state_of self.old) loaded) }
+        ensures no_more { OnOk result (IsNoMore (state_of self.old) (state_of self.new)) }
+    {
+        self.take(loaded)?;
+        Ok(())
+    }
+
+    #[tactic(auto, unfolding(crate::specs::Turn::resumed))]
+    fn take(&mut self, loaded: Loaded) -> Result<(), AllocError>
+        ensures { OnOk result (state_of self.new ≡ resumed (state_of self.old) loaded) }
     {
         let source = std::mem::replace(&mut self.source, Source::Refused);
         self.source = take_answer(source, &mut self.state, loaded)?;

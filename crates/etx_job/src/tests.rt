@@ -276,10 +276,9 @@ fn a_log_is_made_before_its_source_is_read(rt: HostRuntime) -> Result<(), Fail> 
 #[test]
 fn other_words_get_the_usage(rt: HostRuntime) -> Result<(), Fail> {
     let alloc = rt.alloc();
-    let lists: [&[&str]; 9] = [
+    let lists: [&[&str]; 8] = [
         &[],
         &["alone"],
-        &["alone", "job", "job"],
         &["alone", "-job"],
         &["alone", "a/b"],
         &["alone", ".."],
@@ -321,5 +320,81 @@ fn a_failing_call_cuts_the_history(rt: HostRuntime) -> Result<(), Fail> {
         let whole = call_failing(alloc, words, b"\\end", &[], &[unreached])?;
         assert!(rt; whole.is(Status::Clean, b"job.log", NO_PAGES));
     }
+    Ok(())
+}
+
+/// Whether these words get the usage, and no file is asked for.
+fn is_usage(alloc: Global, words: &[&str]) -> Result<bool, AllocError> {
+    let left = call(alloc, words, b"\\end")?;
+    Ok(left.status == Status::Usage && left.tree.calls() == 0)
+}
+
+/// Words that aren't of a form that is known, behind `alone`.
+const OTHER_STEPS: &[&[&str]] = &[
+    &["alone", "job", "job"],
+    &["alone", "--steps=5"],
+    &["alone", "job", "--steps"],
+    &["alone", "job", "--steps="],
+    &["alone", "job", "--steps", ""],
+    &["alone", "job", "--steps", "0"],
+    &["alone", "job", "--steps=1099511627777"],
+    &["alone", "job", "--steps=00000000000005"],
+    &["alone", "job", "--steps=+5"],
+    &["alone", "job", "--steps=5a"],
+    &["alone", "--steps", "job", "5"],
+    &["alone", "job", "--steps=5", "--steps=5"],
+    &["alone", "job", "--steps", "5", "--steps=5"],
+    &["--steps=5", "alone", "job"],
+];
+
+#[test]
+fn steps_of_another_form_get_the_usage(rt: HostRuntime) -> Result<(), Fail> {
+    let alloc = rt.alloc();
+    for words in OTHER_STEPS {
+        assert!(rt; is_usage(alloc, *words)?);
+    }
+    Ok(())
+}
+
+/// Three names: three steps.
+const THREE_STEPS: &[u8] = b"\\relax\\par \\end";
+
+/// The answer to these words, where the main file has three names.
+fn end_under(alloc: Global, words: &[&str]) -> Result<Status, AllocError> {
+    let left = call(alloc, words, THREE_STEPS)?;
+    Ok(left.status)
+}
+
+const ENOUGH_STEPS: &[&[&str]] = &[
+    &["alone", "job"],
+    &["alone", "job", "--steps=3"],
+    &["alone", "--steps=3", "job"],
+    &["alone", "job", "--steps", "3"],
+    &["alone", "--steps", "3", "job"],
+    &["alone", "job", "--steps=0000000000003"],
+    &["alone", "job", "--steps=1099511627776"],
+];
+
+const FEW_STEPS: &[&[&str]] = &[
+    &["alone", "job", "--steps=2"],
+    &["alone", "--steps=1", "job"],
+    &["alone", "job", "--steps", "2"],
+    &["alone", "--steps", "02", "job"],
+];
+
+const NO_STEPS_LEFT: &[u8] = b"*** (step budget spent)\nNo pages of output.\n";
+
+#[test]
+fn a_budget_is_spent_where_the_next_step_would_pass_it(rt: HostRuntime) -> Result<(), Fail> {
+    let alloc = rt.alloc();
+    for words in ENOUGH_STEPS {
+        assert!(rt; end_under(alloc, *words)? == Status::Clean);
+    }
+    for words in FEW_STEPS {
+        assert!(rt; end_under(alloc, *words)? == Status::Spent);
+    }
+    let spent = call(alloc, &["alone", "job", "--steps=2"], THREE_STEPS)?;
+    assert!(rt; spent.is(Status::Spent, b"job.log", NO_STEPS_LEFT));
+    assert!(rt; spent.status.exit_status() == 3);
     Ok(())
 }

@@ -127,12 +127,13 @@ fn find_behind(alloc: Global, words: &[String]) -> Result<Option<Job>, AllocErro
     ensures { IfOk result (λ job. job ≡ job_behind (map string_bytes words.now)) }
 {
     match words {
+        [] => Ok(None),
         [file] => make_job(alloc, file.as_bytes(), Some(DEFAULT_BUDGET)),
         [first, second] => find_by_two(alloc, first.as_bytes(), second.as_bytes()),
         [first, second, third] => {
             find_by_three(alloc, first.as_bytes(), second.as_bytes(), third.as_bytes())
         }
-        _ => Ok(None),
+        [_, _, _, _, ..] => Ok(None),
     }
 }
 

@@ -1,6 +1,7 @@
 use Rattle.std.proofs.Common.{◌≡◌, ◌<◌, ◌≤◌, ◌-◌, List, ℕ}
 use Rattle.etx_outside.specs.Outside.{outside_of, faults_of, NoneFell}
 use Rattle.etx_settle.specs.Deeds.{AllOpen}
+use Rattle.etx_job.specs.Mouths.{state_of}
 use Rattle.etx_job.specs.Measure.{weight}
 use Rattle.etx_job.specs.Chain.{Start}
 use Rattle.etx_job.specs.Going.{IsFor, Going}
@@ -12,17 +13,17 @@ invariant-steps g l =
     let faults = faults_of g.F.Tree.faults g.T.Terminal.faults in
     let first = seen l.fn.tree l.fn.terminal in
     record {
-      within : l.mouth.machine.spent ≤ l.budget;
+      within : (state_of l.mouth).machine.spent ≤ l.budget;
       few : l.errors < 100;
       asked : l.budget ≡ l.fn.job.budget;
       bounded : l.budget ≤ 1099511627776;
       opened : AllOpen (g.F.Tree.is_open l.tree) l.journal.pen.created;
       later : NoneFell (faults l.fn.tree l.fn.terminal) (faults l.tree l.terminal);
-      going : g.F.Tree.tells → g.T.Terminal.tells → (start : Start) → IsFor start first → start.job ≡ l.fn.job → Going start first l.mouth l.errors l.journal (seen l.tree l.terminal);
+      going : g.F.Tree.tells → g.T.Terminal.tells → (start : Start) → IsFor start first → start.job ≡ l.fn.job → Going start first (state_of l.mouth) l.errors l.journal (seen l.tree l.terminal);
     }
 
 abbrev pub decreases-steps : goal.decreases-steps
-decreases-steps g l = l.budget - l.mouth.machine.spent
+decreases-steps g l = l.budget - (state_of l.mouth).machine.spent
 
 abbrev pub invariant-errors : goal.invariant-errors
 invariant-errors g l =
@@ -30,14 +31,14 @@ invariant-errors g l =
     let faults = faults_of g.F.Tree.faults g.T.Terminal.faults in
     let first = seen l.fn.tree l.fn.terminal in
     record {
-      same : l.mouth.machine.spent ≡ l.before;
-      within : l.mouth.machine.spent ≤ l.budget;
+      same : (state_of l.mouth).machine.spent ≡ l.before;
+      within : (state_of l.mouth).machine.spent ≤ l.budget;
       few : l.errors < 100;
       asked : l.budget ≡ l.fn.job.budget;
       bounded : l.budget ≤ 1099511627776;
       opened : AllOpen (g.F.Tree.is_open l.tree) l.journal.pen.created;
       later : NoneFell (faults l.fn.tree l.fn.terminal) (faults l.tree l.terminal);
-      going : g.F.Tree.tells → g.T.Terminal.tells → (start : Start) → IsFor start first → start.job ≡ l.fn.job → Going start first l.mouth l.errors l.journal (seen l.tree l.terminal);
+      going : g.F.Tree.tells → g.T.Terminal.tells → (start : Start) → IsFor start first → start.job ≡ l.fn.job → Going start first (state_of l.mouth) l.errors l.journal (seen l.tree l.terminal);
     }
 
 abbrev pub decreases-errors : goal.decreases-errors
@@ -49,16 +50,16 @@ invariant-free g l =
     let faults = faults_of g.F.Tree.faults g.T.Terminal.faults in
     let first = seen l.fn.tree l.fn.terminal in
     record {
-      same : l.mouth.machine.spent ≡ l.before;
+      same : (state_of l.mouth).machine.spent ≡ l.before;
       uncounted : l.errors ≡ l.counted;
-      within : l.mouth.machine.spent ≤ l.budget;
+      within : (state_of l.mouth).machine.spent ≤ l.budget;
       few : l.errors < 100;
       asked : l.budget ≡ l.fn.job.budget;
       bounded : l.budget ≤ 1099511627776;
       opened : AllOpen (g.F.Tree.is_open l.tree) l.journal.pen.created;
       later : NoneFell (faults l.fn.tree l.fn.terminal) (faults l.tree l.terminal);
-      going : g.F.Tree.tells → g.T.Terminal.tells → (start : Start) → IsFor start first → start.job ≡ l.fn.job → Going start first l.mouth l.errors l.journal (seen l.tree l.terminal);
+      going : g.F.Tree.tells → g.T.Terminal.tells → (start : Start) → IsFor start first → start.job ≡ l.fn.job → Going start first (state_of l.mouth) l.errors l.journal (seen l.tree l.terminal);
     }
 
 abbrev pub decreases-free : goal.decreases-free
-decreases-free g l = weight l.mouth
+decreases-free g l = weight (state_of l.mouth)
