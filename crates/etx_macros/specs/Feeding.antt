@@ -8,7 +8,7 @@ use Rattle.etx_macros.specs.declared.fault.Fed.{Fed}
 use Rattle.etx_macros.specs.declared.fault.Fed.TheVariants.{More, Fault}
 use Rattle.etx_macros.specs.declared.fault.MatchFault.{MatchFault}
 use Rattle.etx_macros.specs.declared.fault.MatchFault.TheVariants.{DoesNotMatch}
-use Rattle.etx_macros.specs.Marks.{has_category, depth_of, same_token, ends_with}
+use Rattle.etx_macros.specs.Marks.{has_category, is_space, depth_of, same_token, ends_with}
 use Rattle.etx_macros.specs.Calls.{inner_of}
 use Rattle.etx_macros.specs.Matching.{undelimited_turn, delimited_turn, said_at}
 use Rattle.etx_macros.specs.State.{MatcherState, FedBy}
@@ -138,3 +138,18 @@ is_extra m t = nat_lt 0 m.part && (m.depth == 0) && has_category t 2
 -- the same match for a macro that isn't long
 unfoldable pub short : MatcherState → MatcherState
 short m = record { parts = m.parts; long = false; args = m.args; part = m.part; read = m.read; depth = m.depth; matched = m.matched; failed = m.failed }
+
+-- whether the argument that is being read has a delimiter
+abbrev pub is_delimited : Option (List Token) → Bool
+is_delimited None = false
+is_delimited (Some []) = false
+is_delimited (Some (t ∷ ts)) = true
+
+-- a space before an undelimited argument is skipped
+abbrev pub is_skipped : MatcherState → Token → Bool
+is_skipped m t = if is_delimited (slice_get m.parts m.part) then false else (m.depth == 0) && is_space t
+
+-- Whether a token that is taken is copied into an argument. Its delimiter is, until it is known to be that; the text before the
+-- first parameter and spaces that are skipped aren't.
+unfoldable pub is_copied : MatcherState → Token → Bool
+is_copied m t = if m.part == 0 then false else not (is_skipped m t)

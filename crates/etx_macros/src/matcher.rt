@@ -1,7 +1,7 @@
 // The match of a call, token by token.
 ghost use Rattle.std.specs.Prelude.{◌≡◌, ◌++◌, ◌∷◌, [], ◌⊎◌, IfOk, OnOk, OnErr, MatchBool, List, true};
 ghost use Rattle.etx_matter.specs.declared.token.Token.{Token};
-ghost use Rattle.etx_macros.specs.Feeding.{fed_of, started, is_going, is_done, is_extra, short};
+ghost use Rattle.etx_macros.specs.Feeding.{fed_of, started, is_going, is_done, is_extra, is_copied, short};
 ghost use Rattle.etx_macros.specs.Progress.{IsGoing, IsDone, IsAfter, Means, Stands, KeepsPattern};
 ghost use Rattle.etx_macros.specs.declared.fault.Fed.TheVariants.{More, Done};
 
@@ -83,6 +83,18 @@ impl Matcher {
         ensures { result ≡ is_extra self.now token }
     {
         self.progress.part > 0 && self.progress.depth == 0 && has_category(token, 2)
+    }
+
+    /// Whether a token, where it is fed and taken, is copied into an argument: its delimiter is, until it is known to be
+    /// that. The text before the first parameter isn't, nor are spaces before an undelimited argument.
+    #[tactic(auto, unfolding(crate::specs::Feeding::is_copied))]
+    pub fn is_copied(&self, token: Token) -> bool
+        ensures { result ≡ is_copied self.now token }
+    {
+        if self.progress.part == 0 {
+            return false;
+        }
+        !self.progress.is_skipped(token)
     }
 
     /// Goes on as if the macro weren't long.

@@ -6,6 +6,7 @@ use crate::argument::{
     Turn, delimited_turn, has_at, longest_end, said, undelimited_turn, unwrapped,
 };
 use crate::fault::{Fed, MatchFault};
+use crate::mark::is_space;
 use crate::pattern::Pattern;
 use etx_lists::Listed;
 use etx_matter::{Token, Tokens};
@@ -34,9 +35,9 @@ pub(crate) struct Progress {
 }
 
 impl Progress {
-    ghost use Rattle.std.specs.Prelude.{◌≡◌, ◌<◌, ◌≤◌, ◌++◌, ◌∷◌, [], ◌-◌, IfOk, OnErr, List, take, true};
+    ghost use Rattle.std.specs.Prelude.{◌≡◌, ◌<◌, ◌≤◌, ◌++◌, ◌∷◌, [], ◌-◌, IfOk, OnErr, List, take, slice_get, true};
     ghost use Rattle.etx_matter.specs.declared.token.Token.{Token};
-    ghost use Rattle.etx_macros.specs.Feeding.{matched_in, part_of, ended, refused, text_fed, argument_fed, part_fed, fed_of, argument_of, is_going, is_done, started, Makes};
+    ghost use Rattle.etx_macros.specs.Feeding.{matched_in, part_of, ended, refused, text_fed, argument_fed, part_fed, fed_of, argument_of, is_going, is_done, is_delimited, is_skipped, started, Makes};
     ghost use Rattle.etx_macros.specs.Progress.{IsGoing, KeepsPattern};
     ghost use Rattle.etx_macros.specs.Seen.{state_of};
 
@@ -116,6 +117,26 @@ impl Progress {
         let delimiter = self.delimiter();
         let most = (self.matched_before() + 1).min(delimiter.len());
         longest_end(self.read.as_slice(), delimiter, most)
+    }
+
+    /// Whether the argument that is being read has a delimiter.
+    fn is_delimited(&self) -> bool
+        ensures { result ≡ is_delimited (slice_get self.now.pattern self.now.part) }
+    {
+        match self.pattern.parts().get(self.part) {
+            None => false,
+            Some(text) => !text.is_empty(),
+        }
+    }
+
+    /// Whether a token is a space that is skipped before an undelimited argument.
+    pub(crate) fn is_skipped(&self, token: Token) -> bool
+        ensures { result ≡ is_skipped (state_of self.now) token }
+    {
+        if self.is_delimited() {
+            return false;
+        }
+        self.depth == 0 && is_space(token)
     }
 
     /// A token of the text before the first parameter.

@@ -33,3 +33,12 @@ pub enum Deed {
     /// The creation of a file. The first that a job creates is its log.
     Create(Bytes),
 }
+
+/// What an observer of a job is told, in the order in which it happens.
+#[derive(Clone, Copy, Debug, PartialEq, Eq)]
+pub enum Notice {
+    /// A page was shipped: its number, from 1 on, and `\count0` then.
+    Page { number: u64, count0: i32 },
+    /// An error was reported, with the number of the line that was read last.
+    Error { line: u32 },
+}

@@ -26,7 +26,7 @@ mod whats;
 pub use boxed::Boxed;
 pub use category::Category;
 pub use copies::copy_nodes;
-pub use deed::{Audience, Deed};
+pub use deed::{Audience, Deed, Notice};
 pub use end::{End, FatalError, Limit, Status};
 pub use etx_lists::{Bytes, Listed, MOST};
 pub use font::{

@@ -1,6 +1,8 @@
 //! Scans in progress: what the mouth is in the middle of. Here they are data; what becomes of a token in each of them is
 //! said by the crates above.
+use crate::definition::Macro;
 use etx_lists::Bytes;
+use etx_macros::Matcher;
 use etx_matter::{Category, Token, Tokens};
 
 /// What stood before a definition or an assignment.
@@ -39,6 +41,14 @@ pub enum Scan {
     StringOf,
     /// `\csname`: the name so far.
     CsName(Bytes),
+    /// The call of the macro `name`, whose arguments are being matched. `is_cut`: an outer macro or the end of a file cut it
+    /// off, and that was reported.
+    Call {
+        name: Token,
+        definition: Macro,
+        matcher: Matcher,
+        is_cut: bool,
+    },
     /// The main loop waits for a command.
     Command,
     /// The control sequence `reader` waits for the left brace of a text that is expanded.
