@@ -6,6 +6,7 @@
 //! 405 and 464 to 478.
 #![tactic(auto)]
 
+mod call;
 mod get;
 mod meaning;
 mod moves;
