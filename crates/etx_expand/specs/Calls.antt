@@ -7,7 +7,7 @@ use Rattle.etx_macros.specs.declared.fault.Fed.TheVariants as says
 use Rattle.etx_macros.specs.declared.fault.MatchFault.{MatchFault}
 use Rattle.etx_macros.specs.declared.fault.MatchFault.TheVariants.{DoesNotMatch, ParagraphEnded, ExtraBrace}
 use Rattle.etx_macros.specs.State.{MatcherState}
-use Rattle.etx_macros.specs.Feeding.{fed_of, is_copied, is_extra, short}
+use Rattle.etx_macros.specs.Feeding.{fed_of, is_copied, is_extra, short, unmatched}
 use Rattle.etx_macros.specs.Substituting.{substituted}
 use Rattle.etx_state.specs.declared.scan.Scan.{Scan}
 use Rattle.etx_state.specs.declared.scan.Scan.TheVariants as scan
@@ -26,12 +26,12 @@ abbrev pub naming : List ℕ → Token → List ℕ → Mouth → List ℕ
 naming before name behind m = (before ++ shown_name m name) ++ behind
 
 -- A right brace that no left brace of the argument opens: \par is read before it, and the call goes on as that of a macro which
--- isn't long.
+-- isn't long. What was matched of the delimiter belongs to the argument then.
 abbrev pub extra_row : Token → MacroState → MatcherState → Mouth → Move
 extra_row name definition matcher m =
     Fails (record {
       text = naming (codes "Argument of ") name (codes " has an extra }") m;
-      scan = Some (scan.Call name definition (short matcher) false);
+      scan = Some (scan.Call name definition (unmatched matcher) false);
       is_back = true;
       inserted = par ∷ [];
     })

@@ -38,7 +38,7 @@ fn extra_row(
 {
     let text = name_call(s, b"Argument of ", name, b" has an extra }")?;
     let inserted = one(s.alloc(), Token::Name(PAR))?;
-    matcher.shorten();
+    matcher.break_off();
     Ok(Move::Fails(Failure {
         text,
         scan: Some(Scan::Call {
