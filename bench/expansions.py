@@ -18,7 +18,8 @@ import sys
 import tempfile
 import time
 
-HERE = os.path.dirname(os.path.dirname(os.path.abspath(__file__)))
+import common
+
 CATEGORIES = "\\catcode`\\{=1 \\catcode`\\}=2 \\catcode`\\#=6 "
 KINDS = {
     "no parameter": ("", "", "\\%s"),
@@ -95,7 +96,7 @@ def compare(program, kind):
 
 
 def main():
-    program = os.path.abspath(sys.argv[1] if len(sys.argv) > 1 else os.path.join(HERE, "crates/etx/out/etx"))
+    program = os.path.abspath(sys.argv[1] if len(sys.argv) > 1 else os.path.join(common.ROOT, "crates/etx/out/etx"))
     for tool in "pdftex", "valgrind":
         if not shutil.which(tool):
             print(f"{tool} is not there: nothing is compared")
