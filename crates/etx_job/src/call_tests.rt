@@ -441,6 +441,14 @@ const REPORTED: &[Row] = &[
         br"\def\a#1{<#1>}\edef\b{\a}\message{\b}\end",
         b"! Argument of \\a has an extra }.\nl.2\n! Paragraph ended before \\a was complete.\nl.2\n\\par ",
     ),
+    (
+        br"\def\a#1x\par{\message{<#1>}}{\a yx}\message{z}\end",
+        b"! Argument of \\a has an extra }.\nl.2\n! Paragraph ended before \\a was complete.\nl.2\nz",
+    ),
+    (
+        br"\long\def\a#1x\par y{\message{<#1>}}{\a zx\par}\message{z}\end",
+        b"! Argument of \\a has an extra }.\nl.2\n! Paragraph ended before \\a was complete.\nl.2\nz",
+    ),
     // Nine parameters, a tenth, and other digits.
     (
         br"\def\a#1#2#3#4#5#6#7#8#9#1{#9}\message{\a abcdefghij}\end",
@@ -612,6 +620,14 @@ const REPORTED: &[Row] = &[
         br"\outer\def\o{\message{o}}\def\a#1{\message{y#1}}\expandafter\a\noexpand\o\message{z}\end",
         b"! Forbidden control sequence found while scanning text of \\message.\nl.2\ny  o\n! Too many }'s.\nl.2\nz",
     ),
+    (
+        br"\outer\def\o{\message{o}}\def\a#1x\par{\message{<#1>}}\a yx\o\message{z}\end",
+        b"! Forbidden control sequence found while scanning use of \\a.\nl.2\no z",
+    ),
+    (
+        br"\outer\def\o{\message{o}}\def\a#1x {\message{<#1>}}\a yx\o\message{z}\end",
+        b"! Forbidden control sequence found while scanning use of \\a.\nl.2\n<y> o z",
+    ),
 ];
 
 /// The same of jobs that have no end of their own.
@@ -664,6 +680,10 @@ const CUT: &[Row] = &[
     (
         br"\message{hi}",
         b"hi\n! Emergency stop.\nl.2\n*** (job aborted, no legal \\end found)",
+    ),
+    (
+        br"\def\a#1x\par{\message{<#1>}}\a yx%",
+        b"! File ended while scanning use of \\a.\nl.2\n<y>\n! Emergency stop.\nl.2\n*** (job aborted, no legal \\end found)",
     ),
     // Calls that don't match.
     (
