@@ -1,5 +1,6 @@
 //! Macro calls: what becomes of a token where the arguments of a macro are matched.
 ghost use Rattle.std.specs.Prelude.{◌≡◌, ◌+◌, ◌<◌, ◌≤◌, ◌^◌, ◌++◌, ◌∷◌, [], OnOk, IfOk, None};
+ghost use Rattle.etx_input.specs.declared.origin.Origin.TheVariants.{Fresh};
 ghost use Rattle.etx_macros.specs.Substituting.{substituted};
 ghost use Rattle.etx_state.specs.States.{mouth_of};
 ghost use Rattle.etx_expand.specs.Calls.{naming, extra_row, call_failure, paragraph_row, refused_row, copies, call_turn, cut_off};
@@ -117,7 +118,7 @@ fn end_call(
     matcher: &Matcher,
 ) -> Result<Turned, AllocError>
     requires { s.old.spent + copied < 2 ^ 64 }
-    ensures now { OnOk result (mouth_of s.new ≡ read_next Origin.Fresh (substituted definition.now.body matcher.now.args) (charged copied (mouth_of s.old))) }
+    ensures now { OnOk result (mouth_of s.new ≡ read_next Fresh (substituted definition.now.body matcher.now.args) (charged copied (mouth_of s.old))) }
     ensures turned { IfOk result (λ t. t ≡ Turned.Again) }
 {
     let alloc = s.alloc();
