@@ -16,7 +16,8 @@ import subprocess
 import sys
 import tempfile
 
-HERE = os.path.dirname(os.path.dirname(os.path.abspath(__file__)))
+import common
+
 FOLDERS = ["/usr/share/texlive", "/usr/share/texmf", "/usr/local/texlive", "/var/lib/texmf"]
 PROGRAM = r"""//! What a font makes of its characters.
 #![tactic(auto)]
@@ -116,34 +117,6 @@ fn main(rt: HostRuntime) -> anyhow::Result<()> {
     Ok(())
 }
 """
-
-
-def build(folder):
-    """The program, built in this folder over the repository's crates."""
-    crates = os.path.join(folder, "crates")
-    bench = os.path.join(crates, "font_bench")
-    os.makedirs(os.path.join(bench, "src"))
-    lines = {}
-    with open(os.path.join(HERE, "crates.txt")) as file:
-        for line in file:
-            name, colon, needed = line.partition(":")
-            if colon:
-                lines[name] = needed
-    wanted = ["etx_tfm"]
-    for name in wanted:
-        wanted += [other for other in lines[name].split() if other in lines and other not in wanted]
-    with open(os.path.join(folder, "crates.txt"), "w") as out:
-        for name in reversed(wanted):
-            shutil.copytree(os.path.join(HERE, "crates", name), os.path.join(crates, name))
-            out.write(f"{name}:{lines[name].rstrip()}\n")
-        out.write("font_bench: etx_tfm etx_matter etx_lists anyhow\n")
-    with open(os.path.join(bench, "src", "main.rt"), "w") as out:
-        out.write(PROGRAM)
-    ran = subprocess.run(["rt", "run"], cwd=bench, stdout=subprocess.PIPE, stderr=subprocess.STDOUT, text=True)
-    program = os.path.join(bench, "out", "font_bench")
-    if not os.path.exists(program):
-        sys.exit(ran.stdout)
-    return program
 
 
 def tokens(text):
@@ -267,7 +240,8 @@ def main():
         print("no TFM files here")
         return 0
     with tempfile.TemporaryDirectory() as folder:
-        said = subprocess.run([build(folder)] + names, stdout=subprocess.PIPE, text=True).stdout
+        program = common.build_program(folder, "font_bench", PROGRAM, ["etx_tfm", "etx_matter", "etx_lists", "anyhow"])
+        said = subprocess.run([program] + names, stdout=subprocess.PIPE, text=True).stdout
     ours = {}
     for line in said.splitlines():
         if line.startswith("f "):

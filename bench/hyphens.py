@@ -20,7 +20,8 @@ import subprocess
 import sys
 import tempfile
 
-HERE = os.path.dirname(os.path.dirname(os.path.abspath(__file__)))
+import common
+
 BATCH = 1_000_000
 LONGEST = ("antidisestablishmentarianism" * 3)[:63]
 
@@ -259,25 +260,6 @@ def by_tex(words, path, folder):
     return shown
 
 
-def program(folder):
-    """Builds the program over the crate, and gives its path."""
-    for name in ["etx_lists", "etx_patterns"]:
-        shutil.copytree(os.path.join(HERE, "crates", name), os.path.join(folder, "crates", name))
-    source = os.path.join(folder, "crates", "hyphens", "src")
-    os.makedirs(source)
-    with open(os.path.join(source, "main.rt"), "w", encoding="utf-8") as file:
-        file.write(PROGRAM)
-    with open(os.path.join(folder, "crates.txt"), "w", encoding="ascii") as file:
-        file.write("etx_lists:\netx_patterns: etx_lists\nhyphens: etx_patterns\n")
-    crate = os.path.join(folder, "crates", "hyphens")
-    said = subprocess.run(["rt", "run"], cwd=crate, stdin=subprocess.DEVNULL, stdout=subprocess.PIPE,
-                          stderr=subprocess.STDOUT, text=True, check=False).stdout
-    built = os.path.join(crate, "out", "hyphens")
-    if not os.access(built, os.X_OK):
-        sys.exit("the program could not be built:\n" + said[-3000:])
-    return built
-
-
 def run(built, lines):
     """What the program writes, and the seconds of the processor that it takes."""
     before = resource.getrusage(resource.RUSAGE_CHILDREN)
@@ -331,7 +313,7 @@ def main():
     patterns, exceptions = tables(hyphen)
     loaded = ["p " + pattern for pattern in patterns] + ["x " + word for word in exceptions]
     with tempfile.TemporaryDirectory() as folder:
-        built = program(folder)
+        built = common.build_program(folder, "hyphens", PROGRAM, ["etx_patterns"])
         ours, refused = by_crate(built, loaded, words)
         theirs = by_tex(words, hyphen, folder)
         rounds = -(-BATCH // len(words))

@@ -1,20 +1,20 @@
 #!/usr/bin/env python3
-"""Times lists of nodes: building, copying, appending and cutting, and a box nested 400 deep.
+"""Times lists of nodes: building, copying, appending and cutting, and boxes nested up to 400 deep.
 
     bench/lists.py
 
 It builds a small program over a copy of crates/etx_matter in a folder of its own, with `rt`, and runs it. That takes some
-minutes. It asks that the time of each step on 2^20 nodes is at most 12 times that on 2^18, so that it grows with the
+minutes. Each step is made seven times, and the shortest time counts, since the machine may be busy. It asks that the time
+for a node, or for a box, of the longest list is at most three times that of the shortest: so the times grow with the
 length and not with its square. It is no part of the gate. Exit status 1 where something is not as asked.
 """
-import os
-import shutil
 import subprocess
 import sys
 import tempfile
 
-HERE = os.path.dirname(os.path.dirname(os.path.abspath(__file__)))
-SIZES = ["262144", "524288", "1048576"]
+import common
+
+STEPS = ["built", "copied", "appended", "cut"]
 PROGRAM = r"""//! Times lists of nodes.
 #![tactic(auto)]
 
@@ -23,26 +23,30 @@ use std::alloc::{AllocError, Global};
 use std::rt::Clock;
 use std::time::Instant;
 
+fn letter() -> Node {
+    Node::Char {
+        font: 1,
+        code: 97,
+        size: CharSize {
+            width: 327680,
+            height: 327680,
+            depth: 0,
+            italic: 0,
+        },
+    }
+}
+
 fn letters(alloc: Global, size: u32) -> Result<Nodes, AllocError> {
     let mut list = Nodes::new(alloc);
     for _ in 0..size {
-        list.push(Node::Char {
-            font: 1,
-            code: 97,
-            size: CharSize {
-                width: 327680,
-                height: 327680,
-                depth: 0,
-                italic: 0,
-            },
-        })?;
+        list.push(letter())?;
     }
     Ok(list)
 }
 
-fn nested(alloc: Global, times: u32) -> Result<Nodes, AllocError> {
+fn nested(alloc: Global, depth: u32) -> Result<Nodes, AllocError> {
     let mut list = Nodes::new(alloc);
-    for _ in 0..times {
+    for _ in 0..depth {
         let mut outer = Nodes::new(alloc);
         outer.push(Node::Box(BoxNode {
             vertical: false,
@@ -72,73 +76,81 @@ fn lists(rt: &(impl Print + Clock), alloc: Global, size: u32) -> anyhow::Result<
     let start = Instant::now(rt)?;
     let rest = list.cut(half)?;
     let cut = start.elapsed(rt)?;
-    println!(rt; "list {size} {} {} {} {} {}", built.as_micros(), copied.as_micros(), appended.as_micros(), cut.as_micros(), rest.len())?;
+    println!(rt; "list {size} {} {} {} {} {} {}", built.as_nanos(), copied.as_nanos(), appended.as_nanos(), cut.as_nanos(), list.len(), rest.len())?;
     Ok(())
 }
 
-fn boxes(rt: &(impl Print + Clock), alloc: Global) -> anyhow::Result<()> {
-    let list = nested(alloc, 400)?;
+fn boxes(rt: &(impl Print + Clock), alloc: Global, depth: u32) -> anyhow::Result<()> {
+    let list = nested(alloc, depth)?;
     let start = Instant::now(rt)?;
-    for _ in 0..1000 {
-        let _copy = copy_nodes(alloc, &list)?;
-    }
+    let copy = copy_nodes(alloc, &list)?;
     let copied = start.elapsed(rt)?;
     let start = Instant::now(rt)?;
-    let mut sum: u64 = 0;
-    for _ in 0..1000 {
-        sum = sum.saturating_add(u64::from(nesting(&list)));
-    }
+    let found = nesting(&copy);
     let measured = start.elapsed(rt)?;
-    println!(rt; "boxes {} {} {sum}", copied.as_micros(), measured.as_micros())?;
+    println!(rt; "boxes {depth} {} {} {found}", copied.as_nanos(), measured.as_nanos())?;
     Ok(())
 }
 
 fn main(rt: HostRuntime) -> anyhow::Result<()> {
     let alloc = rt.alloc();
     println!(rt; "node {}", std::mem::size_of::<Node>())?;
-    lists(&rt, alloc, 262144)?;
-    lists(&rt, alloc, 524288)?;
-    lists(&rt, alloc, 1048576)?;
-    boxes(&rt, alloc)
+    for _ in 0..7 {
+        lists(&rt, alloc, 65536)?;
+        lists(&rt, alloc, 262144)?;
+        lists(&rt, alloc, 1048576)?;
+        boxes(&rt, alloc, 100)?;
+        boxes(&rt, alloc, 200)?;
+        boxes(&rt, alloc, 400)?;
+    }
+    Ok(())
 }
 """
 
 
-def build(folder):
-    """The program, built in this folder over the repository's crates."""
-    crates = os.path.join(folder, "crates")
-    bench = os.path.join(crates, "list_bench")
-    os.makedirs(os.path.join(bench, "src"))
-    for name in ("etx_lists", "etx_matter"):
-        shutil.copytree(os.path.join(HERE, "crates", name), os.path.join(crates, name))
-    with open(os.path.join(folder, "crates.txt"), "w") as out:
-        out.write("etx_lists:\netx_matter: etx_lists\nlist_bench: etx_matter anyhow\n")
-    with open(os.path.join(bench, "src", "main.rt"), "w") as out:
-        out.write(PROGRAM)
-    ran = subprocess.run(["rt", "run"], cwd=bench, stdout=subprocess.PIPE, stderr=subprocess.STDOUT, text=True)
-    program = os.path.join(bench, "out", "list_bench")
-    if not os.path.exists(program):
-        sys.exit(ran.stdout)
-    return program
+def is_right(kind, size, last):
+    """Whether a list was cut where it was appended, or the boxes were found as deep as they are nested."""
+    return last == ([size, size] if kind == "list" else [size])
+
+
+def read(said):
+    """The shortest times of each size in ns, by what they are of; and whether all that was found is right."""
+    shortest, good = {"list": {}, "boxes": {}}, True
+    for kind, *words in map(str.split, said.splitlines()):
+        if kind == "node":
+            print(f"a node takes {words[0]} bytes")
+            continue
+        size, *numbers = map(int, words)
+        count = len(STEPS) if kind == "list" else 2
+        times = shortest[kind].setdefault(size, numbers[:count])
+        shortest[kind][size] = list(map(min, times, numbers))
+        good &= is_right(kind, size, numbers[count:])
+    return shortest, good
+
+
+def grows(sizes, which):
+    """Whether one of the times grows faster than the size: it is three times as long for each node or box."""
+    least, most = min(sizes), max(sizes)
+    return sizes[most][which] / most > 3 * sizes[least][which] / least
 
 
 def main():
     with tempfile.TemporaryDirectory() as folder:
-        said = subprocess.run([build(folder)], stdout=subprocess.PIPE, text=True).stdout
-    times = {}
-    for words in map(str.split, said.splitlines()):
-        if words[0] == "list":
-            times[words[1]] = [int(word) for word in words[2:6]]
-            print(f"{words[1]} nodes: built in {words[2]} us, copied in {words[3]}, appended in {words[4]}, cut in {words[5]}")
-        elif words[0] == "boxes":
-            print(f"a box nested 400 deep, 1000 times: copied in {words[1]} us, measured in {words[2]} us")
-        else:
-            print(f"a node takes {words[1]} bytes")
-    few, many = times[SIZES[0]], times[SIZES[-1]]
-    bad = [step for step, (a, b) in zip(("build", "copy", "append", "cut"), zip(few, many)) if b > 12 * max(a, 500)]
+        program = common.build_program(folder, "list_bench", PROGRAM, ["etx_matter", "anyhow"])
+        said = subprocess.run([program], stdout=subprocess.PIPE, text=True, check=True).stdout
+    shortest, good = read(said)
+    for size, times in shortest["list"].items():
+        shown = [f"{step} in {time / 1e6:.2f} ms ({time / size:.0f} ns a node)" for step, time in zip(STEPS, times)]
+        print(f"{size} nodes: {', '.join(shown)}")
+    for depth, (copied, measured) in shortest["boxes"].items():
+        print(f"boxes nested {depth} deep: copied in {copied / 1e3:.1f} us, measured in {measured / 1e3:.1f} us")
+    bad = [step for which, step in enumerate(STEPS) if grows(shortest["list"], which)]
+    bad += [step for which, step in enumerate(["boxes copied", "boxes measured"]) if grows(shortest["boxes"], which)]
     for step in bad:
-        print(f"to {step} four times as many nodes takes more than 12 times as long")
-    return 1 if bad or int(said.split()[-1]) != 400000 else 0
+        print(f"NOT linear: {step}")
+    if not good:
+        print("NOT as asked: a list or its nesting is wrong")
+    return 0 if good and not bad else 1
 
 
 if __name__ == "__main__":

@@ -7,13 +7,13 @@ It asks for at most 2 seconds on one processor and for at most 12 times the file
 end on the longer file. It is no part of the gate. Exit status 1 where something is not as asked.
 """
 import os
-import resource
 import subprocess
 import sys
 import tempfile
 
+import common
+
 LONGEST = 16777216
-HERE = os.path.dirname(os.path.dirname(os.path.abspath(__file__)))
 NO_PAGES = b"No pages of output.\n"
 FATAL = b"! Emergency stop.\nl.0\n*** (job aborted, file error in nonstop mode)\n" + NO_PAGES
 
@@ -54,7 +54,7 @@ def main():
     if sys.argv[1:2] == ["--measure"]:
         measure(sys.argv[2], sys.argv[3])
         return 0
-    program = os.path.abspath(sys.argv[1] if len(sys.argv) > 1 else os.path.join(HERE, "crates/etx/out/etx"))
+    program = os.path.abspath(sys.argv[1] if len(sys.argv) > 1 else os.path.join(common.ROOT, "crates/etx/out/etx"))
     if not os.access(program, os.X_OK):
         print(f"{program} is not there: run ./demo first")
         return 1

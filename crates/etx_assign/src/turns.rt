@@ -88,6 +88,7 @@ fn row(s: &mut State, scan: Scan, token: Token, meaning: Meaning) -> Result<Move
         | Scan::NoExpand
         | Scan::StringOf
         | Scan::CsName(_)
+        | Scan::Call { .. }
         | Scan::Command
         | Scan::TextBrace { .. }
         | Scan::Text { .. }

@@ -1,5 +1,5 @@
 -- Each turn ends the job, reports an error, takes a step, or makes the weight of the mouth smaller.
-use Rattle.std.proofs.Common.{◌≡◌, ℕ, ℤ, ◌+◌, ◌-◌, ◌<◌, ◌≤◌, inl, inr, ◌==◌, Bool, true, false, List, [], ◌∷◌, ◌++◌, Option, Some, None, refl, sym, subst, ap, arith, if◌then◌else◌}
+use Rattle.std.proofs.Common.{◌≡◌, ℕ, zero, suc, ℤ, ◌+◌, ◌-◌, ◌<◌, ◌≤◌, inl, inr, ◌==◌, Bool, true, false, List, [], ◌∷◌, ◌++◌, Option, Some, None, refl, sym, subst, ap, arith, if◌then◌else◌}
 use Rattle.etx_matter.specs.declared.token.Token.{Token}
 use Rattle.etx_matter.specs.declared.token.Token.TheVariants.{Char, Name, Param}
 use Rattle.etx_matter.specs.declared.end.End.TheVariants.{Unbuilt, Capacity}
@@ -22,6 +22,12 @@ use Rattle.etx_prims.specs.declared.expansion.ConvertKind.{ConvertKind}
 use Rattle.etx_prims.specs.declared.expansion.ConvertKind.TheVariants as converts
 use Rattle.etx_prims.specs.declared.parameters.IntParam.TheVariants.{EndLineChar}
 use Rattle.etx_prims.specs.Lookup.{primitive_named}
+use Rattle.etx_macros.specs.declared.fault.Fed.{Fed}
+use Rattle.etx_macros.specs.declared.fault.Fed.TheVariants as says
+use Rattle.etx_macros.specs.State.{MatcherState}
+use Rattle.etx_macros.specs.Feeding.{fed_of, is_extra, started}
+use Rattle.etx_macros.specs.Substituting.{substituted}
+use Rattle.etx_state.specs.Macros.{MacroState}
 use Rattle.etx_state.specs.declared.key.Meaning.{Meaning}
 use Rattle.etx_state.specs.declared.key.Meaning.TheVariants as means
 use Rattle.etx_state.specs.declared.scan.Scan.{Scan}
@@ -53,6 +59,7 @@ use Rattle.etx_expand.specs.Meanings.{is_expandable, is_outer, is_expanded_by, r
 use Rattle.etx_expand.specs.Measure.{tokens_weight, levels_weight, scan_weight, entry_weight, stack_weight, weight, Pays, Goes}
 use Rattle.etx_expand.specs.Printing.{spelled, character_tokens}
 use Rattle.etx_expand.specs.Turn.{is_plain, primitive_begun, begun, relaxed, name_made, name_row, name_token, named_turn, name_end_turn, cs_name_turn, text_brace_row, text_goes_on, text_by, text_turn, brace_of, handed, scan_turn, kept_turn, scan_got, kept_got, say_turn, entry_turn, turn_of}
+use Rattle.etx_expand.specs.Calls.{extra_row, refused_row, copies, fed_turn, call_turn, cut_off}
 use Rattle.etx_expand.proofs.Gotten.{Stays, with_name_stays, got_charges}
 
 -- ---- what the input gives
@@ -92,6 +99,7 @@ mouth_weighs m = given_weighs (category_in m.values) (int_in m.values EndLineCha
 abbrev GoesGot : Got → Mouth → Mouth → Type 0
 GoesGot (got.Token t mm) old new = Pays 64 old new
 GoesGot (got.Over d) old new = Goes d old new
+GoesGot (got.Cut text) old new = Unit {0}
 
 admitted_goes : (w : Watch) (t : Token) (mm : Meaning) (old m : Mouth) → Pays 64 old m → GoesGot (admitted w t mm m).got old (admitted w t mm m).now
 admitted_goes watch.Nothing t mm old m paid = paid
@@ -103,6 +111,11 @@ admitted_goes (watch.Defining name) t mm old m paid = by (is_outer mm)
 admitted_goes (watch.Absorbing name) t mm old m paid = by (is_outer mm)
   where
     by : (b : Bool) → GoesGot (if b then forbidden (watch.Absorbing name) t m else getting m (got.Token t mm)).got old (if b then forbidden (watch.Absorbing name) t m else getting m (got.Token t mm)).now
+    by true = tt
+    by false = paid
+admitted_goes (watch.Matching name) t mm old m paid = by (is_outer mm)
+  where
+    by : (b : Bool) → GoesGot (if b then forbidden (watch.Matching name) t m else getting m (got.Token t mm)).got old (if b then forbidden (watch.Matching name) t m else getting m (got.Token t mm)).now
     by true = tt
     by false = paid
 
@@ -134,6 +147,7 @@ ended_goes : (w : Watch) (old m : Mouth) → Pays 1 old m → GoesGot (file_ende
 ended_goes watch.Nothing old m paid = paid
 ended_goes (watch.Defining name) old m paid = tt
 ended_goes (watch.Absorbing name) old m paid = tt
+ended_goes (watch.Matching name) old m paid = tt
 
 next_goes : (x : Next) (i : InputState) (m : Mouth) → levels_weight i.levels + gift_weight x ≤ levels_weight m.input.levels → GoesGot (next_got x (with_input i m)).got m (next_got x (with_input i m)).now
 next_goes (next.Listed t Fresh) i m is = token_goes t Fresh m (charged 1 (with_input i m)) (inl (omega arith))
@@ -247,19 +261,19 @@ primitive_small (prims.Expand k) = expand_small k
 primitive_small (prims.Convert k) = convert_small k
 primitive_small _ = tt
 
-macro_small : (b : Bool) (body : List Token) → IsSmall (if b then move.Used (Text body) else move.Ends Unbuilt)
-macro_small true body = tt
-macro_small false body = tt
+macro_small : (b : Bool) (body : List Token) (f : Scan) → IsSmall (if b then move.Used (Text body) else move.Used (Begin f))
+macro_small true body f = tt
+macro_small false body f = tt
 
-begun_small : (mm : Meaning) → IsSmall (begun mm)
+begun_small : (t : Token) (mm : Meaning) → IsSmall (begun t mm)
 unfolding begun
-begun_small means.Undefined = tt
-begun_small (means.Primitive p) = primitive_small p
-begun_small (means.Char code cat) = tt
-begun_small (means.Macro m) = macro_small (is_plain m.parts) m.body
+begun_small t means.Undefined = tt
+begun_small t (means.Primitive p) = primitive_small p
+begun_small t (means.Char code cat) = tt
+begun_small t (means.Macro m) = macro_small (is_plain m.parts) m.body (scan.Call t m (started m.parts m.is_long) false)
 
-begun_goes : (t : Token) (mm : Meaning) (old m : Mouth) → Pays 3 old m → Goes (outcome (begun mm) m) old (made t (begun mm) m)
-begun_goes t mm old m paid = small_goes t (begun mm) old m (begun_small mm) paid
+begun_goes : (t : Token) (mm : Meaning) (old m : Mouth) → Pays 3 old m → Goes (outcome (begun t mm) m) old (made t (begun t mm) m)
+begun_goes t mm old m paid = small_goes t (begun t mm) old m (begun_small t mm) paid
 
 -- ---- the scans
 
@@ -323,6 +337,29 @@ text_goes Right reader depth items t old m paid = by (depth == 0)
     by false = moved_goes t (move.Copied (scan.Text reader (depth - 1) (items ++ t ∷ []))) old m paid
 text_goes Neither reader depth items t old m paid = moved_goes t (move.Copied (scan.Text reader depth (items ++ t ∷ []))) old m paid
 
+-- steps more are paid for
+charged_pays : (n k : ℕ) (old m : Mouth) → Pays k old m → Pays k old (charged n m)
+charged_pays n k old m (inl more) = inl (omega (arith, more))
+charged_pays zero k old m (inr fell) = inr (omega (arith, fell.0), fell.1)
+charged_pays (suc n) k old m (inr fell) = inl (omega (arith, fell.0))
+
+fed_goes : (fed : Fed) (name : Token) (definition : MacroState) (matcher : MatcherState) (is_cut : Bool) (copied : ℕ) (t : Token) (old m : Mouth) → Pays 66 old m
+    → GoesTo old (fed_turn fed name definition matcher is_cut copied t m)
+fed_goes says.More name definition matcher is_cut copied t old m paid =
+    enough 65 1 old (charged copied m) (scanning (scan.Call name definition matcher is_cut) (charged copied m)) (charged_pays copied 66 old m paid) (record { spent = refl; weight = omega arith })
+fed_goes says.Done name definition matcher is_cut copied t old m paid =
+    let h = ended_list (charged copied m) (substituted definition.body matcher.args) in
+    enough 65 1 old (charged copied m) (read_next Fresh (substituted definition.body matcher.args) (charged copied m)) (charged_pays copied 66 old m paid) (record { spent = h.spent; weight = omega (arith, h.weight) })
+fed_goes (says.Fault fault) name definition matcher is_cut copied t old m paid = moved_goes t (refused_row fault name is_cut m) old m paid
+
+call_goes : (name : Token) (definition : MacroState) (matcher : MatcherState) (is_cut : Bool) (t : Token) (old m : Mouth) → Pays 66 old m → GoesTo old (call_turn name definition matcher is_cut t m)
+unfolding call_turn
+call_goes name definition matcher is_cut t old m paid = by (is_extra matcher t)
+  where
+    by : (b : Bool) → GoesTo old (if b then moved t (extra_row name definition matcher m) m else fed_turn (fed_of matcher t).fed name definition (fed_of matcher t).matcher is_cut (copies matcher t) t m)
+    by true = moved_goes t (extra_row name definition matcher m) old m paid
+    by false = fed_goes (fed_of matcher t).fed name definition (fed_of matcher t).matcher is_cut (copies matcher t) t old m paid
+
 handed_goes : (f : Scan) (t : Token) (mm : Meaning) (old m : Mouth) → Pays 66 old m → GoesTo old (handed f t mm m)
 handed_goes f t mm old m paid = let h = scan_small f in enough 2 64 old m (scanning f m) paid (record { spent = refl; weight = omega (arith, h) })
 
@@ -332,13 +369,14 @@ scan_goes scan.ExpandAfter t mm old m paid = moved_goes t (move.Hold keeper.Expa
 scan_goes scan.NoExpand t mm old m paid = moved_goes t move.Unexpanded old m paid
 scan_goes scan.StringOf t mm old m paid = moved_goes t (move.Used (Text (character_tokens (spelled m t)))) old m paid
 scan_goes (scan.CsName name) t mm old m paid = cs_name_goes name t mm old m paid
+scan_goes (scan.Call name definition matcher is_cut) t mm old m paid = call_goes name definition matcher is_cut t old m paid
 scan_goes (scan.TextBrace reader) t mm old m paid = moved_goes t (text_brace_row reader mm) old m paid
 scan_goes (scan.Text reader depth items) t mm old m paid = text_goes (brace_of t) reader depth items t old m paid
 scan_goes scan.Command t mm old m paid = paid
 scan_goes f t mm old m paid = handed_goes f t mm old m paid
 
 under_goes : (b : Bool) (kept t : Token) (mm : Meaning) (old m : Mouth) → Pays 129 old m
-    → GoesTo old (if b then moved t (begun mm) (entered (entry.PutBack kept) m) else after (put_back kept (put_back t m)) turned.Again)
+    → GoesTo old (if b then moved t (begun t mm) (entered (entry.PutBack kept) m) else after (put_back kept (put_back t m)) turned.Again)
 under_goes true kept t mm old m paid = begun_goes t mm old (entered (entry.PutBack kept) m) (enough 126 3 old m (entered (entry.PutBack kept) m) paid (record { spent = refl; weight = omega arith }))
 under_goes false kept t mm old m paid =
     let h = back_grows t m in
@@ -363,14 +401,16 @@ taken n e es old m was same weighs (inr fell) = inr (fell.0, omega (arith, fell.
 
 scan_got_goes : (f : Scan) (es : List Entry) (g : Got) (old m : Mouth) → old.scans ≡ entry.Scan f ∷ es → m.scans ≡ old.scans → GoesGot g old m → GoesTo old (scan_got f es g m)
 scan_got_goes f es (got.Over d) old m was same goes = goes
+scan_got_goes f es (got.Cut text) old m was same goes = tt
 scan_got_goes f es (got.Token t mm) old m was same goes = by (is_expanded_by (reading_of f) mm)
   where
-    by : (b : Bool) → GoesTo old (if b then moved t (begun mm) m else scan_turn f t mm (with_scans es m))
+    by : (b : Bool) → GoesTo old (if b then moved t (begun t mm) m else scan_turn f t mm (with_scans es m))
     by true = begun_goes t mm old m (less 64 3 old m (omega arith) goes)
     by false = scan_goes f t mm old (with_scans es m) (taken (scan_weight f) (entry.Scan f) es old m was same refl goes)
 
 kept_got_goes : (by : Keeper) (kept : Token) (es : List Entry) (g : Got) (old m : Mouth) → old.scans ≡ entry.Kept kept by ∷ es → m.scans ≡ old.scans → GoesGot g old m → GoesTo old (kept_got by kept es g m)
 kept_got_goes by kept es (got.Over d) old m was same goes = goes
+kept_got_goes by kept es (got.Cut text) old m was same goes = tt
 kept_got_goes by kept es (got.Token t mm) old m was same goes = kept_goes by kept t mm old (with_scans es m) (taken 65 (entry.Kept kept by) es old m was same refl goes)
 
 say_goes : (text : List ℕ) (is_parted : Bool) (es : List Entry) (old : Mouth) → old.scans ≡ entry.Say text is_parted ∷ es → GoesTo old (say_turn text is_parted (with_scans es old))

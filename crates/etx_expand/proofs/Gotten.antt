@@ -56,6 +56,11 @@ admitted_stays (watch.Absorbing name) t mm m = by (is_outer mm)
     by : (b : Bool) → Stays m (if b then forbidden (watch.Absorbing name) t m else getting m (got.Token t mm)).now
     by true = record { scans = refl; spent = refl }
     by false = record { scans = refl; spent = refl }
+admitted_stays (watch.Matching name) t mm m = by (is_outer mm)
+  where
+    by : (b : Bool) → Stays m (if b then forbidden (watch.Matching name) t m else getting m (got.Token t mm)).now
+    by true = record { scans = refl; spent = refl }
+    by false = record { scans = refl; spent = refl }
 
 token_stays : (t : Token) (o : Origin) (m : Mouth) → Stays m (token_got t o m).now
 unfolding token_got
@@ -81,6 +86,7 @@ ended_stays : (w : Watch) (m : Mouth) → Stays m (file_ended w m).now
 ended_stays watch.Nothing m = record { scans = refl; spent = refl }
 ended_stays (watch.Defining name) m = record { scans = refl; spent = refl }
 ended_stays (watch.Absorbing name) m = record { scans = refl; spent = refl }
+ended_stays (watch.Matching name) m = record { scans = refl; spent = refl }
 
 -- the scans are as they were, and there was one step at most
 pub record Charges (old new : Mouth) : Type 0 where

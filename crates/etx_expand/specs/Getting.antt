@@ -44,6 +44,7 @@ getting m g = record { now = m; got = g }
 abbrev pub watch_by : Scan → Watch → Watch
 watch_by scan.NoExpand others = watch.Nothing
 watch_by scan.StringOf others = watch.Nothing
+watch_by (scan.Call name definition matcher is_cut) others = watch.Matching name
 watch_by (scan.TextBrace reader) others = watch.Absorbing reader
 watch_by (scan.Text reader depth items) others = watch.Absorbing reader
 watch_by (scan.DefParams definition mark) others = watch.Defining definition.name
@@ -65,23 +66,29 @@ abbrev pub watched : Mouth → Watch → List ℕ
 watched m watch.Nothing = []
 watched m (watch.Defining name) = codes "definition of " ++ shown_name m name
 watched m (watch.Absorbing name) = codes "text of " ++ shown_name m name
+watched m (watch.Matching name) = codes "use of " ++ shown_name m name
+
+-- the control sequence that ends a paragraph
+abbrev pub par : Token
+par = Name (record { 0 = 0 })
 
 -- what the end of a scan wants
 abbrev pub ending_of : Watch → List Token
 ending_of watch.Nothing = []
 ending_of (watch.Defining name) = Char 125 2 ∷ []
 ending_of (watch.Absorbing name) = Char 125 2 ∷ []
+ending_of (watch.Matching name) = par ∷ []
 
 -- An outer macro in the midst of a scan: the scan gets a space, then what ends it, and then the macro is read again.
 abbrev pub forbidden : Watch → Token → Mouth → Getting
 forbidden w t m =
     getting (read_next Back (Char 32 10 ∷ []) (read_next Fresh (ending_of w) (put_back t m)))
-    (got.Over (error_deed (codes "Forbidden control sequence found while scanning " ++ watched m w) m))
+    (got.Cut (codes "Forbidden control sequence found while scanning " ++ watched m w))
 
 -- A file that is over in the midst of a scan: the scan gets what ends it.
 abbrev pub file_ended : Watch → Mouth → Getting
 file_ended watch.Nothing m = getting m (got.Over turned.Again)
-file_ended w m = getting (read_next Fresh (ending_of w) m) (got.Over (error_deed (codes "File ended while scanning " ++ watched m w) m))
+file_ended w m = getting (read_next Fresh (ending_of w) m) (got.Cut (codes "File ended while scanning " ++ watched m w))
 
 -- this time a token that would be expanded is \relax
 abbrev pub unexpanded : Meaning → Meaning

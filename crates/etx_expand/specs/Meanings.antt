@@ -55,6 +55,7 @@ reading_of scan.ExpandAfter = Plain
 reading_of scan.NoExpand = Plain
 reading_of scan.StringOf = Plain
 reading_of (scan.CsName name) = Expanded
+reading_of (scan.Call name definition matcher is_cut) = Plain
 reading_of scan.Command = Expanded
 reading_of (scan.TextBrace reader) = Expanded
 reading_of (scan.Text reader depth items) = Text

@@ -10,6 +10,7 @@ use Rattle.etx_prims.specs.declared.command.Primitive.{Primitive}
 use Rattle.etx_prims.specs.declared.command.Primitive.TheVariants as prims
 use Rattle.etx_prims.specs.declared.expansion.ExpandKind.TheVariants as expands
 use Rattle.etx_prims.specs.declared.expansion.ConvertKind.TheVariants as converts
+use Rattle.etx_macros.specs.Feeding.{started}
 use Rattle.etx_state.specs.declared.key.Key.TheVariants as key
 use Rattle.etx_state.specs.declared.key.Val.TheVariants as val
 use Rattle.etx_state.specs.declared.key.Meaning.{Meaning}
@@ -37,8 +38,9 @@ use Rattle.etx_expand.specs.declared.turns.Top.{Top}
 use Rattle.etx_expand.specs.declared.turns.Top.TheVariants as top
 use Rattle.etx_expand.specs.declared.row.Brace.{Brace}
 use Rattle.etx_expand.specs.declared.row.Brace.TheVariants.{Left, Right, Neither}
-use Rattle.etx_expand.specs.Moves.{After, after, moved, entered, scanning, put_back}
+use Rattle.etx_expand.specs.Moves.{After, after, moved, entered, scanning, put_back, error_deed}
 use Rattle.etx_expand.specs.Getting.{got_of}
+use Rattle.etx_expand.specs.Calls.{call_turn, cut_off}
 use Rattle.etx_expand.specs.Meanings.{is_expandable, is_expanded_by, reading_of}
 use Rattle.etx_expand.specs.Printing.{spelled, character_tokens}
 
@@ -58,14 +60,14 @@ failure_under text ts = Fails (record { text = text; scan = None; is_back = true
 
 -- ---- what an expandable token begins
 
--- a macro without parameters, whose call is its name alone
+-- a macro whose call is its name alone
 abbrev pub is_plain : List (List Token) → Bool
 is_plain ([] ∷ []) = true
 is_plain _ = false
 
--- Such a macro stands for its body. Other calls are still to come.
-abbrev pub macro_begun : MacroState → Move
-macro_begun m = if is_plain m.parts then Used (Text m.body) else Ends Unbuilt
+-- Such a macro stands for its body. Of another one the call is read.
+abbrev pub macro_begun : Token → MacroState → Move
+macro_begun name m = if is_plain m.parts then Used (Text m.body) else Used (Begin (scan.Call name m (started m.parts m.is_long) false))
 
 unfoldable pub primitive_begun : Primitive → Move
 primitive_begun (prims.Expand expands.ExpandAfter) = Used (Begin scan.ExpandAfter)
@@ -74,11 +76,11 @@ primitive_begun (prims.Expand expands.CsName) = Used (Begin (scan.CsName []))
 primitive_begun (prims.Convert converts.String) = Used (Begin scan.StringOf)
 primitive_begun _ = Ends Unbuilt
 
-unfoldable pub begun : Meaning → Move
-begun means.Undefined = plain_failure (codes "Undefined control sequence")
-begun (means.Primitive p) = primitive_begun p
-begun (means.Char code cat) = Used Nothing
-begun (means.Macro m) = macro_begun m
+unfoldable pub begun : Token → Meaning → Move
+begun t means.Undefined = plain_failure (codes "Undefined control sequence")
+begun t (means.Primitive p) = primitive_begun p
+begun t (means.Char code cat) = Used Nothing
+begun t (means.Macro m) = macro_begun t m
 
 -- ---- \csname
 
@@ -170,6 +172,7 @@ scan_turn scan.ExpandAfter t mm m = moved t (Hold keeper.ExpandAfter) m
 scan_turn scan.NoExpand t mm m = moved t Unexpanded m
 scan_turn scan.StringOf t mm m = string_turn t m
 scan_turn (scan.CsName name) t mm m = cs_name_turn name t mm m
+scan_turn (scan.Call name definition matcher is_cut) t mm m = call_turn name definition matcher is_cut t m
 scan_turn (scan.TextBrace reader) t mm m = moved t (text_brace_row reader mm) m
 scan_turn (scan.Text reader depth items) t mm m = text_turn reader depth items t m
 scan_turn scan.Command t mm m = after m (ready t mm)
@@ -177,7 +180,7 @@ scan_turn f t mm m = handed f t mm m
 
 -- \expandafter expands the token behind the one that it keeps, and puts that one back before what comes of it
 abbrev pub expand_under : Token → Token → Meaning → Mouth → After
-expand_under kept t mm m = if is_expandable mm then moved t (begun mm) (entered (entry.PutBack kept) m) else after (put_back kept (put_back t m)) turned.Again
+expand_under kept t mm m = if is_expandable mm then moved t (begun t mm) (entered (entry.PutBack kept) m) else after (put_back kept (put_back t m)) turned.Again
 
 unfoldable pub kept_turn : Keeper → Token → Token → Meaning → Mouth → After
 kept_turn keeper.ExpandAfter kept t mm m = expand_under kept t mm m
@@ -197,12 +200,14 @@ abbrev pub without_top : List Entry → Mouth → Mouth
 without_top es m = with_scans es m
 
 abbrev pub scan_got : Scan → List Entry → Got → Mouth → After
-scan_got f es (got.Token t mm) m = if is_expanded_by (reading_of f) mm then moved t (begun mm) m else scan_turn f t mm (without_top es m)
+scan_got f es (got.Token t mm) m = if is_expanded_by (reading_of f) mm then moved t (begun t mm) m else scan_turn f t mm (without_top es m)
 scan_got f es (got.Over d) m = after m d
+scan_got f es (got.Cut text) m = after (scanning (cut_off f) (without_top es m)) (error_deed text m)
 
 abbrev pub kept_got : Keeper → Token → List Entry → Got → Mouth → After
 kept_got by kept es (got.Token t mm) m = kept_turn by kept t mm (without_top es m)
 kept_got by kept es (got.Over d) m = after m d
+kept_got by kept es (got.Cut text) m = after m (error_deed text m)
 
 -- a text is said: a space that parts it, and then itself
 abbrev pub say_turn : List ℕ → Bool → Mouth → After

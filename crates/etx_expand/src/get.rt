@@ -12,7 +12,7 @@ use crate::printing::push_name;
 use etx_input::{Next, Origin};
 use etx_lexer::Lexed;
 use etx_lists::Bytes;
-use etx_matter::{End, FatalError, Limit, Token};
+use etx_matter::{End, FatalError, Limit, PAR, Token};
 use etx_prims::Primitive;
 use etx_state::{Capacity, Entry, Meaning, Scan, Scans, State};
 use std::alloc::AllocError;
@@ -32,6 +32,8 @@ pub enum Watch {
     Defining(Token),
     /// In the text that this control sequence reads.
     Absorbing(Token),
+    /// In the arguments of this macro.
+    Matching(Token),
 }
 
 /// What is got.
@@ -41,6 +43,8 @@ pub enum Got {
     Token { token: Token, meaning: Meaning },
     /// No token, and the turn is over.
     Over(Turned),
+    /// No token: an outer macro or the end of a file cuts the scan on top off, which is an error with this text.
+    Cut(Bytes),
 }
 
 /// What a scan says of outer control sequences, if it says something.
@@ -49,6 +53,7 @@ fn watch_by(scan: &Scan) -> Option<Watch>
 {
     match scan {
         Scan::NoExpand | Scan::StringOf => Some(Watch::Nothing),
+        Scan::Call { name, .. } => Some(Watch::Matching(*name)),
         Scan::TextBrace { reader } => Some(Watch::Absorbing(*reader)),
         Scan::Text { reader, .. } => Some(Watch::Absorbing(*reader)),
         Scan::DefParams { definition, .. } => Some(Watch::Defining(definition.name)),
@@ -100,6 +105,7 @@ fn push_watched(s: &State, text: &mut Bytes, watch: Watch) -> Result<(), AllocEr
         Watch::Nothing => Ok(()),
         Watch::Defining(name) => push_phrase(s, text, b"definition of ", name),
         Watch::Absorbing(name) => push_phrase(s, text, b"text of ", name),
+        Watch::Matching(name) => push_phrase(s, text, b"use of ", name),
     }
 }
 
@@ -112,16 +118,17 @@ fn end_scan(s: &mut State, watch: Watch) -> Result<(), AllocError>
         Watch::Nothing => Ok(()),
         Watch::Defining(_) => read_one(s, RIGHT_BRACE, Origin::Fresh),
         Watch::Absorbing(_) => read_one(s, RIGHT_BRACE, Origin::Fresh),
+        Watch::Matching(_) => read_one(s, Token::Name(PAR), Origin::Fresh),
     }
 }
 
-/// An error that names the scan.
-fn report(s: &State, what: &[u8], watch: Watch) -> Result<Turned, AllocError>
-    ensures { IfOk result (λ t. t ≡ error_deed (what.now ++ watched (mouth_of s.now) watch) (mouth_of s.now)) }
+/// The text of an error that names the scan.
+fn report(s: &State, what: &[u8], watch: Watch) -> Result<Bytes, AllocError>
+    ensures { IfOk result (λ text. text ≡ what.now ++ watched (mouth_of s.now) watch) }
 {
     let mut text = Bytes::from_slice(s.alloc(), what)?;
     push_watched(s, &mut text, watch)?;
-    Ok(error_deed(s, text))
+    Ok(text)
 }
 
 /// An outer control sequence in the midst of a scan: the scan gets a space, then what ends it, and then the token is
@@ -130,7 +137,7 @@ fn forbid(s: &mut State, watch: Watch, token: Token) -> Result<Got, AllocError>
     ensures now { OnOk result (mouth_of s.new ≡ (forbidden watch token (mouth_of s.old)).now) }
     ensures got { IfOk result (λ g. g ≡ (forbidden watch token (mouth_of s.old)).got) }
 {
-    let turned = report(
+    let text = report(
         s,
         b"Forbidden control sequence found while scanning ",
         watch,
@@ -138,7 +145,7 @@ fn forbid(s: &mut State, watch: Watch, token: Token) -> Result<Got, AllocError>
     put_back(s, token)?;
     end_scan(s, watch)?;
     read_one(s, SPACE, Origin::Back)?;
-    Ok(Got::Over(turned))
+    Ok(Got::Cut(text))
 }
 
 /// A token is got, unless it is outer where that is forbidden.
@@ -154,6 +161,7 @@ fn admit(s: &mut State, token: Token, meaning: Meaning) -> Result<Got, AllocErro
         Watch::Nothing => Ok(Got::Token { token, meaning }),
         Watch::Defining(_) => forbid(s, watch, token),
         Watch::Absorbing(_) => forbid(s, watch, token),
+        Watch::Matching(_) => forbid(s, watch, token),
     }
 }
 
@@ -240,17 +248,18 @@ fn end_file(s: &mut State) -> Result<Got, AllocError>
         Watch::Nothing => Ok(Got::Over(Turned::Again)),
         Watch::Defining(_) => cut_short(s, watch),
         Watch::Absorbing(_) => cut_short(s, watch),
+        Watch::Matching(_) => cut_short(s, watch),
     }
 }
 
 /// A scan gets what ends it, since the file ended.
 fn cut_short(s: &mut State, watch: Watch) -> Result<Got, AllocError>
     ensures now { OnOk result (mouth_of s.new ≡ read_next Origin.Fresh (ending_of watch) (mouth_of s.old)) }
-    ensures got { IfOk result (λ g. g ≡ Got.Over (error_deed (codes "File ended while scanning " ++ watched (mouth_of s.old) watch) (mouth_of s.old))) }
+    ensures got { IfOk result (λ g. g ≡ Got.Cut (codes "File ended while scanning " ++ watched (mouth_of s.old) watch)) }
 {
-    let turned = report(s, b"File ended while scanning ", watch)?;
+    let text = report(s, b"File ended while scanning ", watch)?;
     end_scan(s, watch)?;
-    Ok(Got::Over(turned))
+    Ok(Got::Cut(text))
 }
 
 /// How many steps a token is.

@@ -6,14 +6,15 @@
 //! 405 and 464 to 478.
 #![tactic(auto)]
 
+mod call;
 mod get;
 mod meaning;
 mod moves;
 mod plan;
 mod printing;
 mod row;
-// (The tests of expansion are jobs: those of `etx_job`, which
-// run each row under the main loop.)
+#[cfg(test)]
+mod tests;
 mod turns;
 
 pub use meaning::{Reading, is_expandable};

@@ -101,6 +101,7 @@ pub(crate) fn reading_of(scan: &Scan) -> Reading
         Scan::ExpandAfter
         | Scan::NoExpand
         | Scan::StringOf
+        | Scan::Call { .. }
         | Scan::Message
         | Scan::DefName { .. }
         | Scan::DefParams { .. }

@@ -28,7 +28,7 @@ pub fn read_one(s: &mut State, token: Token, origin: Origin) -> Result<(), Alloc
 }
 
 /// Reads a list before all else.
-fn read_list(s: &mut State, tokens: SharedTokens) -> Result<(), AllocError>
+pub(crate) fn read_list(s: &mut State, tokens: SharedTokens) -> Result<(), AllocError>
     ensures { OnOk result (mouth_of s.new ≡ read_next Origin.Fresh tokens (mouth_of s.old)) }
 {
     s.input.push_shared(tokens, Origin::Fresh)?;

@@ -1,11 +1,12 @@
 //! What becomes of a token: the rows of expansion.
-ghost use Rattle.std.specs.Prelude.{◌≡◌, [], ◌∷◌, IfOk, Some};
+ghost use Rattle.std.specs.Prelude.{◌≡◌, [], ◌∷◌, IfOk, Some, false};
+ghost use Rattle.etx_macros.specs.Feeding.{started};
 ghost use Rattle.etx_expand.specs.Turn.{plain_failure, failure_into, failure_under, macro_begun, primitive_begun, begun, is_blank, has_category, text_brace_row, brace_of, is_plain, name_row};
 
 use crate::plan::{Failure, Move, Push};
 use etx_input::SharedTokens;
 use etx_lists::Bytes;
-use etx_macros::Pattern;
+use etx_macros::{Matcher, Pattern};
 use etx_matter::{End, NameId, Token, Tokens};
 use etx_prims::{ConvertKind, ExpandKind, Primitive};
 use etx_state::{Macro, Meaning, Scan};
@@ -20,14 +21,14 @@ pub enum Brace {
 }
 
 /// One token, to be read.
-fn one(alloc: Global, token: Token) -> Result<SharedTokens, AllocError>
+pub(crate) fn one(alloc: Global, token: Token) -> Result<SharedTokens, AllocError>
     ensures { IfOk result (λ it. it ≡ token ∷ []) }
 {
     let tokens = Tokens::from_slice(alloc, &[token])?;
     SharedTokens::new(alloc, tokens)
 }
 
-fn none(alloc: Global) -> Result<SharedTokens, AllocError>
+pub(crate) fn none(alloc: Global) -> Result<SharedTokens, AllocError>
     ensures { IfOk result (λ it. it ≡ []) }
 {
     SharedTokens::new(alloc, Tokens::new(alloc))
@@ -85,15 +86,29 @@ fn is_plain(pattern: &Pattern) -> bool
     }
 }
 
-/// A macro without parameters stands for its body. Other calls are still to come.
-fn begin_macro(definition: &Macro) -> Result<Move, AllocError>
-    ensures { IfOk result (λ go. go ≡ macro_begun definition.now) }
+/// The call of a macro that has parameters, or a text before them, begins.
+fn begin_call(alloc: Global, name: Token, definition: &Macro) -> Result<Scan, AllocError>
+    ensures { IfOk result (λ scan. scan ≡ Scan.Call name definition.now (started definition.now.parts definition.now.is_long) false) }
 {
-    if !is_plain(definition.pattern()) {
-        return Ok(Move::Ends(End::Unbuilt));
+    let matcher = Matcher::new(alloc, definition.pattern(), definition.is_long())?;
+    Ok(Scan::Call {
+        name,
+        definition: definition.share()?,
+        matcher,
+        is_cut: false,
+    })
+}
+
+/// A macro whose call is its name stands for its body. Of another one the call is read.
+fn begin_macro(alloc: Global, name: Token, definition: &Macro) -> Result<Move, AllocError>
+    ensures { IfOk result (λ go. go ≡ macro_begun name definition.now) }
+{
+    if is_plain(definition.pattern()) {
+        let body = definition.body().share()?;
+        return Ok(Move::Used(Push::Text(body)));
     }
-    let body = definition.body().share()?;
-    Ok(Move::Used(Push::Text(body)))
+    let call = begin_call(alloc, name, definition)?;
+    Ok(Move::Used(Push::Begin(call)))
 }
 
 #[tactic(auto, unfolding(crate::specs::Turn::primitive_begun))]
@@ -111,16 +126,16 @@ fn begin_primitive(alloc: Global, primitive: Primitive) -> Move
     }
 }
 
-/// What an expandable token of this meaning begins.
+/// What an expandable token begins that has this meaning.
 #[tactic(auto, unfolding(crate::specs::Turn::begun))]
-pub(crate) fn begin(alloc: Global, meaning: &Meaning) -> Result<Move, AllocError>
-    ensures { IfOk result (λ go. go ≡ begun meaning.now) }
+pub(crate) fn begin(alloc: Global, token: Token, meaning: &Meaning) -> Result<Move, AllocError>
+    ensures { IfOk result (λ go. go ≡ begun token meaning.now) }
 {
     match meaning {
         Meaning::Undefined => plain_failure(alloc, b"Undefined control sequence"),
         Meaning::Primitive(primitive) => Ok(begin_primitive(alloc, *primitive)),
         Meaning::Char { .. } => Ok(Move::Used(Push::Nothing)),
-        Meaning::Macro(definition) => begin_macro(definition),
+        Meaning::Macro(definition) => begin_macro(alloc, token, definition),
     }
 }
 

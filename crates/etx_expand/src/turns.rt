@@ -6,9 +6,10 @@ ghost use Rattle.etx_expand.specs.Moves.{moved, entered, put_back};
 ghost use Rattle.etx_expand.specs.Measure.{Goes};
 ghost use Rattle.etx_expand.specs.Turn.{relaxed, name_made, name_end_turn, cs_name_turn, text_goes_on, text_turn, string_turn, text_brace_row, handed, scan_turn, expand_under, kept_turn, say_turn, top_of, turn_of, wanted, begun, ready};
 
+use crate::call::{cut_off, feed_call};
 use crate::get::{Got, get};
 use crate::meaning::{Reading, is_expandable, is_expanded_by, reading_of};
-use crate::moves::{enter, make, put_back};
+use crate::moves::{enter, error_deed, make, put_back};
 use crate::plan::{Move, Push, Turned, Value, Want};
 use crate::printing::{character_tokens, spell};
 use crate::row::{Brace, begin, brace_of, name_row, text_brace_row};
@@ -244,6 +245,12 @@ fn scan_token(
         Scan::NoExpand => make(s, token, Move::Unexpanded),
         Scan::StringOf => spell_out(s, token),
         Scan::CsName(name) => cs_name(s, name, token, &meaning),
+        Scan::Call {
+            name,
+            definition,
+            matcher,
+            is_cut,
+        } => feed_call(s, name, definition, matcher, is_cut, token),
         Scan::TextBrace { reader } => begin_text(s, reader, token, &meaning),
         Scan::Text {
             reader,
@@ -273,10 +280,10 @@ fn begin_under(
     meaning: &Meaning,
 ) -> Result<Turned, AllocError>
     requires { s.old.spent + 1 < 2 ^ 64 }
-    ensures now { OnOk result (mouth_of s.new ≡ (moved token (begun meaning.now) (entered (Entry.PutBack kept) (mouth_of s.old))).now) }
-    ensures turned { IfOk result (λ t. t ≡ (moved token (begun meaning.now) (entered (Entry.PutBack kept) (mouth_of s.old))).turned) }
+    ensures now { OnOk result (mouth_of s.new ≡ (moved token (begun token meaning.now) (entered (Entry.PutBack kept) (mouth_of s.old))).now) }
+    ensures turned { IfOk result (λ t. t ≡ (moved token (begun token meaning.now) (entered (Entry.PutBack kept) (mouth_of s.old))).turned) }
 {
-    let go = begin(s.alloc(), meaning)?;
+    let go = begin(s.alloc(), token, meaning)?;
     enter(s, Entry::PutBack(kept))?;
     make(s, token, go)
 }
@@ -336,10 +343,10 @@ fn kept_token(
 /// A token that the scan on top gets by expansion is expanded.
 fn expand(s: &mut State, token: Token, meaning: &Meaning) -> Result<Turned, AllocError>
     requires { s.old.spent + 1 < 2 ^ 64 }
-    ensures now { OnOk result (mouth_of s.new ≡ (moved token (begun meaning.now) (mouth_of s.old)).now) }
-    ensures turned { IfOk result (λ t. t ≡ (moved token (begun meaning.now) (mouth_of s.old)).turned) }
+    ensures now { OnOk result (mouth_of s.new ≡ (moved token (begun token meaning.now) (mouth_of s.old)).now) }
+    ensures turned { IfOk result (λ t. t ≡ (moved token (begun token meaning.now) (mouth_of s.old)).turned) }
 {
-    let go = begin(s.alloc(), meaning)?;
+    let go = begin(s.alloc(), token, meaning)?;
     make(s, token, go)
 }
 
@@ -353,6 +360,14 @@ fn scan(s: &mut State, by: Reading) -> Result<Turned, AllocError>
 {
     match get(s)? {
         Got::Over(turned) => Ok(turned),
+        Got::Cut(text) => {
+            let turned = error_deed(s, text);
+            let Some(Entry::Scan(scan)) = s.scans.pop() else {
+                unreachable!();
+            };
+            enter(s, Entry::Scan(cut_off(scan)))?;
+            Ok(turned)
+        }
         Got::Token { token, meaning } => {
             if is_expanded_by(by, &meaning) {
                 return expand(s, token, &meaning);
@@ -375,6 +390,7 @@ fn keep(s: &mut State) -> Result<Turned, AllocError>
 {
     match get(s)? {
         Got::Over(turned) => Ok(turned),
+        Got::Cut(text) => Ok(error_deed(s, text)),
         Got::Token { token, meaning } => {
             let Some(Entry::Kept { token: kept, by }) = s.scans.pop() else {
                 unreachable!();

@@ -12,6 +12,12 @@ use Rattle.etx_input.specs.declared.origin.Origin.TheVariants.{Fresh, Back, Unex
 use Rattle.etx_input.specs.declared.levels.Next.{Next}
 use Rattle.etx_input.specs.declared.levels.Next.TheVariants as next
 use Rattle.etx_state.specs.declared.key.Meaning.{Meaning}
+use Rattle.etx_macros.specs.declared.fault.Fed.{Fed}
+use Rattle.etx_macros.specs.declared.fault.Fed.TheVariants as says
+use Rattle.etx_macros.specs.State.{MatcherState}
+use Rattle.etx_macros.specs.Feeding.{fed_of, is_extra, is_copied}
+use Rattle.etx_state.specs.Macros.{MacroState}
+use Rattle.etx_expand.specs.Calls.{extra_row, refused_row, copies, fed_turn, call_turn, cut_off}
 use Rattle.etx_state.specs.declared.scan.Scan.{Scan}
 use Rattle.etx_state.specs.declared.scan.Scan.TheVariants as scan
 use Rattle.etx_state.specs.declared.scan.Keeper.{Keeper}
@@ -74,6 +80,11 @@ admitted_same (watch.Absorbing name) t mm m = by (is_outer mm)
     by : (b : Bool) → (if b then forbidden (watch.Absorbing name) t m else getting m (got.Token t mm)).now.spent ≡ m.spent
     by true = refl
     by false = refl
+admitted_same (watch.Matching name) t mm m = by (is_outer mm)
+  where
+    by : (b : Bool) → (if b then forbidden (watch.Matching name) t m else getting m (got.Token t mm)).now.spent ≡ m.spent
+    by true = refl
+    by false = refl
 
 token_same : (t : Token) (o : Origin) (m : Mouth) → (token_got t o m).now.spent ≡ m.spent
 unfolding token_got
@@ -96,6 +107,7 @@ ended_same : (w : Watch) (m : Mouth) → (file_ended w m).now.spent ≡ m.spent
 ended_same watch.Nothing m = refl
 ended_same (watch.Defining name) m = refl
 ended_same (watch.Absorbing name) m = refl
+ended_same (watch.Matching name) m = refl
 
 charge_small : (o : Origin) → charge_of o ≤ 1
 charge_small Fresh = omega arith
@@ -185,19 +197,37 @@ text_steps Right reader depth items t m = by (depth == 0)
     by false = made_steps t (move.Copied (scan.Text reader (depth - 1) (items ++ t ∷ []))) m
 text_steps Neither reader depth items t m = made_steps t (move.Copied (scan.Text reader depth (items ++ t ∷ []))) m
 
+copied_small : (b : Bool) → (if b then 1 else 0) ≤ 1
+copied_small true = omega arith
+copied_small false = omega arith
+
+fed_steps : (fed : Fed) (name : Token) (definition : MacroState) (matcher : MatcherState) (is_cut : Bool) (copied : ℕ) (t : Token) (m : Mouth) → copied ≤ 1 → Steps 1 m (fed_turn fed name definition matcher is_cut copied t m).now
+fed_steps says.More name definition matcher is_cut copied t m small = (omega arith, omega (arith, small))
+fed_steps says.Done name definition matcher is_cut copied t m small = (omega arith, omega (arith, small))
+fed_steps (says.Fault fault) name definition matcher is_cut copied t m small = made_steps t (refused_row fault name is_cut m) m
+
+call_steps : (name : Token) (definition : MacroState) (matcher : MatcherState) (is_cut : Bool) (t : Token) (m : Mouth) → Steps 1 m (call_turn name definition matcher is_cut t m).now
+unfolding call_turn
+call_steps name definition matcher is_cut t m = by (is_extra matcher t)
+  where
+    by : (b : Bool) → Steps 1 m (if b then moved t (extra_row name definition matcher m) m else fed_turn (fed_of matcher t).fed name definition (fed_of matcher t).matcher is_cut (copies matcher t) t m).now
+    by true = made_steps t (extra_row name definition matcher m) m
+    by false = fed_steps (fed_of matcher t).fed name definition (fed_of matcher t).matcher is_cut (copies matcher t) t m (copied_small (is_copied matcher t))
+
 scan_steps : (f : Scan) (t : Token) (mm : Meaning) (m : Mouth) → Steps 1 m (scan_turn f t mm m).now
 unfolding scan_turn text_turn
 scan_steps scan.ExpandAfter t mm m = made_steps t (move.Hold keeper.ExpandAfter) m
 scan_steps scan.NoExpand t mm m = made_steps t move.Unexpanded m
 scan_steps scan.StringOf t mm m = made_steps t (move.Used (push.Text (character_tokens (spelled m t)))) m
 scan_steps (scan.CsName name) t mm m = cs_name_steps name t mm m
+scan_steps (scan.Call name definition matcher is_cut) t mm m = call_steps name definition matcher is_cut t m
 scan_steps (scan.TextBrace reader) t mm m = made_steps t (text_brace_row reader mm) m
 scan_steps (scan.Text reader depth items) t mm m = text_steps (brace_of t) reader depth items t m
 scan_steps scan.Command t mm m = none 1 m m refl
 scan_steps f t mm m = none 1 m (scanning f m) refl
 
-under_steps : (b : Bool) (kept t : Token) (mm : Meaning) (m : Mouth) → Steps 1 m (if b then moved t (begun mm) (entered (entry.PutBack kept) m) else after (put_back kept (put_back t m)) turned.Again).now
-under_steps true kept t mm m = made_steps t (begun mm) (entered (entry.PutBack kept) m)
+under_steps : (b : Bool) (kept t : Token) (mm : Meaning) (m : Mouth) → Steps 1 m (if b then moved t (begun t mm) (entered (entry.PutBack kept) m) else after (put_back kept (put_back t m)) turned.Again).now
+under_steps true kept t mm m = made_steps t (begun t mm) (entered (entry.PutBack kept) m)
 under_steps false kept t mm m = none 1 m (put_back kept (put_back t m)) refl
 
 kept_steps : (by : Keeper) (kept t : Token) (mm : Meaning) (m : Mouth) → Steps 1 m (kept_turn by kept t mm m).now
@@ -207,14 +237,16 @@ kept_steps (keeper.Future is_global name) kept t mm m = (omega arith, omega arit
 
 scan_got_steps : (f : Scan) (es : List Entry) (g : Got) (m : Mouth) → Steps 1 m (scan_got f es g m).now
 scan_got_steps f es (got.Over d) m = none 1 m m refl
+scan_got_steps f es (got.Cut text) m = none 1 m (scanning (cut_off f) (with_scans es m)) refl
 scan_got_steps f es (got.Token t mm) m = by (is_expanded_by (reading_of f) mm)
   where
-    by : (b : Bool) → Steps 1 m (if b then moved t (begun mm) m else scan_turn f t mm (with_scans es m)).now
-    by true = made_steps t (begun mm) m
+    by : (b : Bool) → Steps 1 m (if b then moved t (begun t mm) m else scan_turn f t mm (with_scans es m)).now
+    by true = made_steps t (begun t mm) m
     by false = scan_steps f t mm (with_scans es m)
 
 kept_got_steps : (by : Keeper) (kept : Token) (es : List Entry) (g : Got) (m : Mouth) → Steps 1 m (kept_got by kept es g m).now
 kept_got_steps by kept es (got.Over d) m = none 1 m m refl
+kept_got_steps by kept es (got.Cut text) m = none 1 m m refl
 kept_got_steps by kept es (got.Token t mm) m = kept_steps by kept t mm (with_scans es m)
 
 say_steps : (text : List ℕ) (is_parted : Bool) (m : Mouth) → Steps 2 m (say_turn text is_parted m).now

@@ -139,6 +139,11 @@ is_extra m t = nat_lt 0 m.part && (m.depth == 0) && has_category t 2
 unfoldable pub short : MatcherState → MatcherState
 short m = record { parts = m.parts; long = false; args = m.args; part = m.part; read = m.read; depth = m.depth; matched = m.matched; failed = m.failed }
 
+-- The same match where an extra right brace was found: for a macro that isn't long, and what was matched of the delimiter belongs to
+-- the argument.
+unfoldable pub unmatched : MatcherState → MatcherState
+unmatched m = record { parts = m.parts; long = false; args = m.args; part = m.part; read = m.read; depth = m.depth; matched = 0; failed = m.failed }
+
 -- whether the argument that is being read has a delimiter
 abbrev pub is_delimited : Option (List Token) → Bool
 is_delimited None = false

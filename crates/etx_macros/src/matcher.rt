@@ -1,7 +1,7 @@
 // The match of a call, token by token.
 ghost use Rattle.std.specs.Prelude.{◌≡◌, ◌++◌, ◌∷◌, [], ◌⊎◌, IfOk, OnOk, OnErr, MatchBool, List, true};
 ghost use Rattle.etx_matter.specs.declared.token.Token.{Token};
-ghost use Rattle.etx_macros.specs.Feeding.{fed_of, started, is_going, is_done, is_extra, is_copied, short};
+ghost use Rattle.etx_macros.specs.Feeding.{fed_of, started, is_going, is_done, is_extra, is_copied, short, unmatched};
 ghost use Rattle.etx_macros.specs.Progress.{IsGoing, IsDone, IsAfter, Means, Stands, KeepsPattern};
 ghost use Rattle.etx_macros.specs.declared.fault.Fed.TheVariants.{More, Done};
 
@@ -102,6 +102,16 @@ impl Matcher {
     pub fn shorten(&mut self)
         ensures { self.new ≡ short self.old }
     {
+        self.progress.long = false;
+    }
+
+    /// Goes on behind an extra right brace: as if the macro weren't long, and what was matched of the delimiter belongs to
+    /// the argument.
+    #[tactic(auto, unfolding(crate::specs::Feeding::unmatched))]
+    pub fn break_off(&mut self)
+        ensures { self.new ≡ unmatched self.old }
+    {
+        self.progress.unmatch();
         self.progress.long = false;
     }
 

@@ -119,6 +119,13 @@ impl Progress {
         longest_end(self.read.as_slice(), delimiter, most)
     }
 
+    /// What was matched of the delimiter belongs to the argument.
+    pub(crate) fn unmatch(&mut self)
+        ensures { state_of self.new ≡ record (state_of self.old) { matched = 0 } }
+    {
+        self.matched = 0;
+    }
+
     /// Whether the argument that is being read has a delimiter.
     fn is_delimited(&self) -> bool
         ensures { result ≡ is_delimited (slice_get self.now.pattern self.now.part) }
