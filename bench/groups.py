@@ -42,12 +42,22 @@ fn opened(alloc: Global) -> Result<State, AllocError> {
 
 /// A local value for this control sequence.
 fn sets(s: &mut State, name: u32) -> bool {
-    assign(s, Key::Meaning(name), Val::Means(Meaning::Char { code: 97, cat: 11 })).is_ok()
+    assign(
+        s,
+        Key::Meaning(name),
+        Val::Means(Meaning::Char { code: 97, cat: 11 }),
+    )
+    .is_ok()
 }
 
 /// A global value for this control sequence.
 fn sets_globally(s: &mut State, name: u32) -> bool {
-    assign_global(s, Key::Meaning(name), Val::Means(Meaning::Char { code: 97, cat: 11 })).is_ok()
+    assign_global(
+        s,
+        Key::Meaning(name),
+        Val::Means(Meaning::Char { code: 97, cat: 11 }),
+    )
+    .is_ok()
 }
 
 fn opens(s: &mut State) -> bool {
@@ -126,15 +136,32 @@ fn time(rt: &(impl Print + Clock), s: &mut State, depth: u32) -> anyhow::Result<
     let start = Instant::now(rt)?;
     let closed = closes_all(s);
     let ended = start.elapsed(rt)?;
-    println!(rt; "{well} {closed} {} {} {} {}", local.as_micros(), global.as_micros(), around.as_micros(), ended.as_micros())?;
+    println!(rt;
+        "{well} {closed} {} {} {} {}",
+        local.as_micros(),
+        global.as_micros(),
+        around.as_micros(),
+        ended.as_micros()
+    )?;
     Ok(())
 }
 
 /// So many values, each under a key of its own.
-fn fill(rt: &(impl Print + Clock), s: &mut State, count: u32, locally: bool, forgets: bool) -> anyhow::Result<()> {
+fn fill(
+    rt: &(impl Print + Clock),
+    s: &mut State,
+    count: u32,
+    locally: bool,
+    forgets: bool,
+) -> anyhow::Result<()> {
     let mut well = !locally || opens(s);
     for name in 0..count {
-        well = well && if locally { sets(s, name) } else { sets_globally(s, name) };
+        well = well
+            && if locally {
+                sets(s, name)
+            } else {
+                sets_globally(s, name)
+            };
         if forgets {
             s.forget();
         }
