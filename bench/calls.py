@@ -21,8 +21,9 @@ import subprocess
 import sys
 import tempfile
 
-HERE = os.path.dirname(os.path.dirname(os.path.abspath(__file__)))
-ROWS = os.path.join(HERE, "crates", "etx_job", "src", "call_tests.rt")
+import common
+
+ROWS = os.path.join(common.ROOT, "crates", "etx_job", "src", "call_tests.rt")
 FIRST = "\\catcode`\\{=1 \\catcode`\\}=2 \\catcode`\\#=6\n"
 LAST = "\nNo pages of output.\n"
 STATUS = {"CLEAN": 0, "REPORTED": 1, "CUT": 1}
@@ -53,7 +54,7 @@ def read_rows():
 def find_program(words):
     """The program that runs real e-TeX, or None."""
     places = words or [
-        os.path.join(HERE, above, "shared", "tools", "reftex.py") for above in ("..", os.path.join("..", ".."))
+        os.path.join(common.ROOT, above, "shared", "tools", "reftex.py") for above in ("..", os.path.join("..", ".."))
     ]
     return next((os.path.abspath(place) for place in places if os.path.isfile(place)), None)
 
