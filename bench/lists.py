@@ -4,24 +4,29 @@
     bench/lists.py
 
 It builds a small program over a copy of crates/etx_matter in a folder of its own, with `rt`, and runs it. That takes some
-minutes. Each step is made seven times, and the shortest time counts, since the machine may be busy. It asks that the time
-for a node, or for a box, of the longest list is at most three times that of the shortest: so the times grow with the
-length and not with its square. It is no part of the gate. Exit status 1 where something is not as asked.
+minutes. What counts is the time of the processor, without that of a run that does nothing, and of seven runs the
+shortest, since the machine may be busy. Each run takes its memory anew. It asks that the time for a node, or for a box,
+of the longest list is at most three times that of the shortest: so the times grow with the length and not with its
+square. It is no part of the gate. Exit status 1 where something is not as asked.
 """
+import os
 import subprocess
 import sys
 import tempfile
 
 import common
 
-STEPS = ["built", "copied", "appended", "cut"]
-PROGRAM = r"""//! Times lists of nodes.
+ROUNDS = 7
+SIZES = [65536, 262144, 1048576]
+DEPTHS = [100, 200, 400]
+LISTS = {"build": "built", "copy": "built and copied", "append": "built, copied and appended", "cut": "built, copied, appended and cut"}
+BOXES = {"boxes": "built", "duplicate": "built, and copied 1000 times", "measure": "built, and measured 1000 times"}
+PROGRAM = r"""//! Lists of nodes.
 #![tactic(auto)]
 
 use etx_matter::{BoxNode, CharSize, GlueSet, Node, Nodes, copy_nodes, nesting};
 use std::alloc::{AllocError, Global};
-use std::rt::Clock;
-use std::time::Instant;
+use std::io;
 
 fn letter() -> Node {
     Node::Char {
@@ -36,7 +41,7 @@ fn letter() -> Node {
     }
 }
 
-fn letters(alloc: Global, size: u32) -> Result<Nodes, AllocError> {
+fn build(alloc: Global, size: u32) -> Result<Nodes, AllocError> {
     let mut list = Nodes::new(alloc);
     for _ in 0..size {
         list.push(letter())?;
@@ -44,113 +49,137 @@ fn letters(alloc: Global, size: u32) -> Result<Nodes, AllocError> {
     Ok(list)
 }
 
-fn nested(alloc: Global, depth: u32) -> Result<Nodes, AllocError> {
+fn copy(alloc: Global, size: u32) -> Result<u64, AllocError> {
+    let list = build(alloc, size)?;
+    let copy = copy_nodes(alloc, &list)?;
+    Ok(copy.len() as u64)
+}
+
+fn double(alloc: Global, size: u32) -> Result<Nodes, AllocError> {
+    let mut list = build(alloc, size)?;
+    let copy = copy_nodes(alloc, &list)?;
+    list.append(copy)?;
+    Ok(list)
+}
+
+fn cut(alloc: Global, size: u32) -> Result<u64, AllocError> {
+    let mut list = double(alloc, size)?;
+    let half = list.len() / 2;
+    let rest = list.cut(half)?;
+    Ok(rest.len() as u64)
+}
+
+fn nest(alloc: Global, list: Nodes) -> Result<Nodes, AllocError> {
+    let mut outer = Nodes::new(alloc);
+    outer.push(Node::Box(BoxNode {
+        vertical: false,
+        width: 0,
+        height: 0,
+        depth: 0,
+        shift: 0,
+        set: GlueSet::natural(),
+        list,
+    }))?;
+    Ok(outer)
+}
+
+fn boxes(alloc: Global, depth: u32) -> Result<Nodes, AllocError> {
     let mut list = Nodes::new(alloc);
     for _ in 0..depth {
-        let mut outer = Nodes::new(alloc);
-        outer.push(Node::Box(BoxNode {
-            vertical: false,
-            width: 0,
-            height: 0,
-            depth: 0,
-            shift: 0,
-            set: GlueSet::natural(),
-            list,
-        }))?;
-        list = outer;
+        list = nest(alloc, list)?;
     }
     Ok(list)
 }
 
-fn lists(rt: &(impl Print + Clock), alloc: Global, size: u32) -> anyhow::Result<()> {
-    let start = Instant::now(rt)?;
-    let mut list = letters(alloc, size)?;
-    let built = start.elapsed(rt)?;
-    let start = Instant::now(rt)?;
-    let copy = copy_nodes(alloc, &list)?;
-    let copied = start.elapsed(rt)?;
-    let start = Instant::now(rt)?;
-    list.append(copy)?;
-    let appended = start.elapsed(rt)?;
-    let half = list.len() / 2;
-    let start = Instant::now(rt)?;
-    let rest = list.cut(half)?;
-    let cut = start.elapsed(rt)?;
-    println!(rt; "list {size} {} {} {} {} {} {}", built.as_nanos(), copied.as_nanos(), appended.as_nanos(), cut.as_nanos(), list.len(), rest.len())?;
+fn duplicate(alloc: Global, depth: u32) -> Result<u64, AllocError> {
+    let list = boxes(alloc, depth)?;
+    for _ in 0..1000 {
+        let _copy = copy_nodes(alloc, &list)?;
+    }
+    Ok(u64::from(nesting(&list)))
+}
+
+fn measure(alloc: Global, depth: u32) -> Result<u64, AllocError> {
+    let list = boxes(alloc, depth)?;
+    let mut sum: u64 = 0;
+    for _ in 0..1000 {
+        sum = sum.saturating_add(u64::from(nesting(&list)));
+    }
+    Ok(sum / 1000)
+}
+
+fn count(alloc: Global, what: &str, size: u32) -> Result<u64, AllocError> {
+    match what {
+        "build" => Ok(build(alloc, size)?.len() as u64),
+        "copy" => copy(alloc, size),
+        "append" => Ok(double(alloc, size)?.len() as u64 / 2),
+        "cut" => cut(alloc, size),
+        "boxes" => Ok(u64::from(nesting(&boxes(alloc, size)?))),
+        "duplicate" => duplicate(alloc, size),
+        "measure" => measure(alloc, size),
+        _ => Ok(0),
+    }
+}
+
+fn obey(rt: &HostRuntime, line: &str) -> io::Result<()> {
+    if let Some((what, size)) = line.split_once(' ') {
+        let size: u32 = size.parse().unwrap_or(0);
+        let found = count(rt.alloc(), what, size)?;
+        println!(rt; "{found}")?;
+    }
     Ok(())
 }
 
-fn boxes(rt: &(impl Print + Clock), alloc: Global, depth: u32) -> anyhow::Result<()> {
-    let list = nested(alloc, depth)?;
-    let start = Instant::now(rt)?;
-    let copy = copy_nodes(alloc, &list)?;
-    let copied = start.elapsed(rt)?;
-    let start = Instant::now(rt)?;
-    let found = nesting(&copy);
-    let measured = start.elapsed(rt)?;
-    println!(rt; "boxes {depth} {} {} {found}", copied.as_nanos(), measured.as_nanos())?;
-    Ok(())
-}
-
-fn main(rt: HostRuntime) -> anyhow::Result<()> {
-    let alloc = rt.alloc();
-    println!(rt; "node {}", std::mem::size_of::<Node>())?;
-    for _ in 0..7 {
-        lists(&rt, alloc, 65536)?;
-        lists(&rt, alloc, 262144)?;
-        lists(&rt, alloc, 1048576)?;
-        boxes(&rt, alloc, 100)?;
-        boxes(&rt, alloc, 200)?;
-        boxes(&rt, alloc, 400)?;
+fn main(rt: HostRuntime) -> io::Result<()> {
+    for line in rt.lines(rt.alloc()) {
+        let line = line?;
+        obey(&rt, line.as_str())?;
     }
     Ok(())
 }
 """
 
 
-def is_right(kind, size, last):
-    """Whether a list was cut where it was appended, or the boxes were found as deep as they are nested."""
-    return last == ([size, size] if kind == "list" else [size])
+def run(program, line):
+    """What the program answers to this line, and the seconds of the processor that it takes."""
+    process = subprocess.Popen([program], stdin=subprocess.PIPE, stdout=subprocess.PIPE, text=True)
+    process.stdin.write(line)
+    process.stdin.close()
+    said = process.stdout.read()
+    _, status, usage = os.wait4(process.pid, 0)
+    process.returncode = os.waitstatus_to_exitcode(status)
+    return said, usage.ru_utime + usage.ru_stime
 
 
-def read(said):
-    """The shortest times of each size in ns, by what they are of; and whether all that was found is right."""
-    shortest, good = {"list": {}, "boxes": {}}, True
-    for kind, *words in map(str.split, said.splitlines()):
-        if kind == "node":
-            print(f"a node takes {words[0]} bytes")
-            continue
-        size, *numbers = map(int, words)
-        count = len(STEPS) if kind == "list" else 2
-        times = shortest[kind].setdefault(size, numbers[:count])
-        shortest[kind][size] = list(map(min, times, numbers))
-        good &= is_right(kind, size, numbers[count:])
-    return shortest, good
+def shortest(program, line, wanted):
+    """The seconds of the shortest of some runs. It stops where an answer isn't as wanted."""
+    runs = [run(program, line) for _ in range(ROUNDS)]
+    for said, _ in runs:
+        if said != wanted:
+            sys.exit(f"{line.strip()}: the program answers {said.strip()!r}, and not {wanted.strip()!r}")
+    return min(seconds for _, seconds in runs)
 
 
-def grows(sizes, which):
-    """Whether one of the times grows faster than the size: it is three times as long for each node or box."""
-    least, most = min(sizes), max(sizes)
-    return sizes[most][which] / most > 3 * sizes[least][which] / least
+def compare(program, kinds, sizes, unit):
+    """Prints the times of each kind of work, and gives those kinds whose times grow faster than the size."""
+    start = shortest(program, "", "")
+    bad = []
+    for what, told in kinds.items():
+        each = [(shortest(program, f"{what} {size}\n", f"{size}\n") - start) / size for size in sizes]
+        shown = [f"{size} in {one * size * 1e3:.2f} ms ({one * 1e9:.0f} ns a {unit})" for size, one in zip(sizes, each)]
+        print(f"{told}: {', '.join(shown)}")
+        if each[-1] > 3 * each[0]:
+            bad.append(told)
+    return bad
 
 
 def main():
     with tempfile.TemporaryDirectory() as folder:
-        program = common.build_program(folder, "list_bench", PROGRAM, ["etx_matter", "anyhow"])
-        said = subprocess.run([program], stdout=subprocess.PIPE, text=True, check=True).stdout
-    shortest, good = read(said)
-    for size, times in shortest["list"].items():
-        shown = [f"{step} in {time / 1e6:.2f} ms ({time / size:.0f} ns a node)" for step, time in zip(STEPS, times)]
-        print(f"{size} nodes: {', '.join(shown)}")
-    for depth, (copied, measured) in shortest["boxes"].items():
-        print(f"boxes nested {depth} deep: copied in {copied / 1e3:.1f} us, measured in {measured / 1e3:.1f} us")
-    bad = [step for which, step in enumerate(STEPS) if grows(shortest["list"], which)]
-    bad += [step for which, step in enumerate(["boxes copied", "boxes measured"]) if grows(shortest["boxes"], which)]
-    for step in bad:
-        print(f"NOT linear: {step}")
-    if not good:
-        print("NOT as asked: a list or its nesting is wrong")
-    return 0 if good and not bad else 1
+        program = common.build_program(folder, "list_bench", PROGRAM, ["etx_matter"])
+        bad = compare(program, LISTS, SIZES, "node") + compare(program, BOXES, DEPTHS, "box")
+    for told in bad:
+        print(f"NOT linear: {told}")
+    return 1 if bad else 0
 
 
 if __name__ == "__main__":
