@@ -100,10 +100,13 @@ fn duplicate(alloc: Global, depth: u32) -> Result<u64, AllocError> {
 }
 
 fn measure(alloc: Global, depth: u32) -> Result<u64, AllocError> {
-    let list = boxes(alloc, depth)?;
+    let mut list = boxes(alloc, depth)?;
     let mut sum: u64 = 0;
     for _ in 0..1000 {
+        // (a list that stays the same would be measured once)
+        list.push(letter())?;
         sum = sum.saturating_add(u64::from(nesting(&list)));
+        let _last = list.pop();
     }
     Ok(sum / 1000)
 }
