@@ -11,12 +11,12 @@ outside of all, and that a value takes at most 1000 bytes. It is no part of the 
 as asked.
 """
 import os
-import shutil
 import subprocess
 import sys
 import tempfile
 
-HERE = os.path.dirname(os.path.dirname(os.path.abspath(__file__)))
+import common
+
 DEPTHS = ["0", "10", "1000", "9999"]
 STEPS = ("local", "global", "in and out")
 VALUES = 1 << 19
@@ -190,40 +190,6 @@ fn main(rt: HostRuntime) -> anyhow::Result<()> {
 """
 
 
-def below(name, lines, found):
-    """The crate and those below it, with what each stands on."""
-    if name in lines and name not in found:
-        found[name] = lines[name]
-        for other in lines[name]:
-            below(other, lines, found)
-    return found
-
-
-def build(folder):
-    """The program, built in this folder over the repository's crates."""
-    lines = {}
-    with open(os.path.join(HERE, "crates.txt")) as text:
-        for line in text:
-            name, colon, rest = line.partition("#")[0].partition(":")
-            if colon:
-                lines[name.strip()] = rest.split()
-    needed = below("etx_groups", lines, {})
-    bench = os.path.join(folder, "crates", "group_bench")
-    os.makedirs(os.path.join(bench, "src"))
-    with open(os.path.join(folder, "crates.txt"), "w") as out:
-        for name, under in needed.items():
-            shutil.copytree(os.path.join(HERE, "crates", name), os.path.join(folder, "crates", name))
-            out.write(f"{name}: {' '.join(under)}\n")
-        out.write("group_bench: etx_groups etx_state etx_matter etx_lists anyhow\n")
-    with open(os.path.join(bench, "src", "main.rt"), "w") as out:
-        out.write(PROGRAM)
-    ran = subprocess.run(["rt", "run"], cwd=bench, stdout=subprocess.PIPE, stderr=subprocess.STDOUT, text=True)
-    program = os.path.join(bench, "out", "group_bench")
-    if not os.path.exists(program):
-        sys.exit(ran.stdout)
-    return program
-
-
 def run(program, *words):
     """What the program said, as words, and the greatest memory in bytes."""
     process = subprocess.Popen([program, *words], stdout=subprocess.PIPE, text=True)
@@ -234,7 +200,7 @@ def run(program, *words):
 
 def main():
     with tempfile.TemporaryDirectory() as folder:
-        program = build(folder)
+        program = common.build_program(folder, "group_bench", PROGRAM, ["etx_groups", "etx_state", "etx_matter", "etx_lists", "anyhow"])
         bad = []
         times = {}
         for depth in DEPTHS:

@@ -317,7 +317,7 @@ def main():
         ours, refused = by_crate(built, loaded, words)
         theirs = by_tex(words, hyphen, folder)
         rounds = -(-BATCH // len(words))
-        common = nanoseconds(built, loaded, words, rounds)
+        usual = nanoseconds(built, loaded, words, rounds)
         longest = nanoseconds(built, loaded, [LONGEST], 100_000)
     differing = [(our, their) for our, their in zip(ours, theirs) if our != their]
     for our, their in differing[:20]:
@@ -325,7 +325,7 @@ def main():
     print(f"{len(patterns)} patterns, {len(exceptions)} exceptions, {len(refused)} refused")
     print(f"{len(words)} words with {sum(word.count('-') for word in theirs)} hyphens, {len(differing)} differences")
     looked_up = rounds * len(words)
-    print(f"{looked_up} look-ups of these words: {common * looked_up / 1e9:.2f} s of one processor, {common:.0f} ns each")
+    print(f"{looked_up} look-ups of these words: {usual * looked_up / 1e9:.2f} s of one processor, {usual:.0f} ns each")
     print(f"a look-up of a word of {len(LONGEST)} letters: {longest:.0f} ns")
     return 1 if differing or refused or len(ours) != len(words) else 0
 
