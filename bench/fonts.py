@@ -2,6 +2,8 @@
 """Reads every TFM file of the machine, and compares what `etx_tfm` makes of it with what `tftopl` says.
 
     bench/fonts.py [FOLDER ..]      without a folder: where TeX Live keeps its fonts
+    bench/fonts.py --hostile        how long fonts take that are made to be slow to read: pairs that come to something by
+                                    2^n steps, n up to 60, and ligatures that come round at once
 
 It builds a small program over a copy of the crates in a folder of its own, with `rt`, which takes some minutes. Compared
 are the widths, heights, depths and italic corrections of all characters, and what becomes of each pair of characters and
@@ -12,9 +14,11 @@ something differs.
 import os
 import re
 import shutil
+import struct
 import subprocess
 import sys
 import tempfile
+import time
 
 import common
 
@@ -102,13 +106,20 @@ fn push_font(text: &mut String, font: &Font) -> anyhow::Result<()> {
 }
 
 fn main(rt: HostRuntime) -> anyhow::Result<()> {
+    let mut reads_alone = false;
     for name in env::args(&rt)?.skip(1) {
+        if name.as_str() == "--read" {
+            reads_alone = true;
+            continue;
+        }
         let bytes = fs::read(&rt, name.as_str())?;
         println!(rt; "f {name}")?;
         match read_font(rt.alloc(), bytes.as_slice(), Size::At(UNIT)) {
             Ok(font) => {
                 let mut text = String::new(rt.alloc());
-                push_font(&mut text, &font)?;
+                if !reads_alone {
+                    push_font(&mut text, &font)?;
+                }
                 print!(rt; "{text}")?;
             }
             Err(fault) => println!(rt; "bad {fault:?}")?,
@@ -230,7 +241,58 @@ class Metrics:
                     yield f"w {str(left).lower()} {str(right).lower()} {' '.join(map(str, word))} :{shown}"
 
 
+X = 127
+
+
+def doubling(count):
+    """Programs by which the pair (i, x) comes to something by that of (i + 1, x) twice, for i below count."""
+    programs = {X: [(128 + i, 0, i + 1) for i in range(count)]}
+    for i in range(count):
+        programs[i] = [(X, 3, 128 + i), (128 + i, 1, i + 1)] + [(128 + i - 1, 3, X)] * (i > 0)
+    programs[count] = [(X, 0, X), (128 + count - 1, 3, X)]
+    return programs
+
+
+def round_at_once():
+    """Programs by which a pair leads to itself, and many more steps."""
+    return {X: [(X, 3, X)] + [(code, 0, code) for code in range(200) if code != X]}
+
+
+def metric_file(programs):
+    """A TFM file with 256 characters and these programs, each a list of (next, operation, remainder)."""
+    steps, begin = [], {}
+    for code, program in sorted(programs.items()):
+        begin[code] = len(steps)
+        steps += [(0, *step) for step in program[:-1]] + [(128, *program[-1])]
+    characters = b"".join(bytes((1, 0, code in begin, begin.get(code, 0))) for code in range(256))
+    lengths = [6 + 2 + 256 + 2 + 3 + len(steps) + 7, 2, 0, 255, 2, 1, 1, 1, len(steps), 0, 0, 7]
+    header = bytes(4) + struct.pack(">I", 10 << 20)
+    tables = bytes(4) + struct.pack(">I", 1 << 19) + bytes(12) + b"".join(map(bytes, steps)) + bytes(28)
+    return struct.pack(">12H", *lengths) + header + characters + tables
+
+
+def time_hostile():
+    fonts = {f"2^{count} steps": doubling(count) for count in (10, 16, 20, 24, 40, 60)}
+    fonts["round at once"] = round_at_once()
+    with tempfile.TemporaryDirectory() as folder:
+        program = build(folder)
+        name = os.path.join(folder, "hostile.tfm")
+        for kind, programs in fonts.items():
+            with open(name, "wb") as out:
+                out.write(metric_file(programs))
+            begin = time.time()
+            try:
+                ran = subprocess.run([program, "--read", name], stdout=subprocess.PIPE, text=True, timeout=20)
+                said = ran.stdout.splitlines()[1:] or ["read"] if ran.returncode == 0 else [f"status {ran.returncode}"]
+            except subprocess.TimeoutExpired:
+                said = ["more than"]
+            print(f"{kind}: {said[0]}, {time.time() - begin:.2f} s")
+    return 0
+
+
 def main():
+    if sys.argv[1:] == ["--hostile"]:
+        return time_hostile()
     if not shutil.which("tftopl"):
         print("no tftopl here: nothing to compare with")
         return 0
@@ -241,6 +303,9 @@ def main():
         return 0
     with tempfile.TemporaryDirectory() as folder:
         program = common.build_program(folder, "font_bench", PROGRAM, ["etx_tfm", "etx_matter", "etx_lists", "anyhow"])
+        begin = time.time()
+        subprocess.run([program, "--read"] + names, stdout=subprocess.DEVNULL)
+        print(f"all fonts are read in {time.time() - begin:.2f} s")
         said = subprocess.run([program] + names, stdout=subprocess.PIPE, text=True).stdout
     ours = {}
     for line in said.splitlines():

@@ -1,20 +1,12 @@
--- What a pair comes to, one pair deeper; and tests of all items.
-use Rattle.std.proofs.Common.{◌≡◌, ℕ, zero, suc, ◌+◌, ◌-◌, ◌<◌, Bool, true, false, ◌||◌, Option, None, refl, sym, ap, ◌∙◌, ◌⊎◌, inl, inr, arith}
-use mathlib.Core.Bool.{not}
-use Rattle.std.specs.Option.{is_some, is_none}
+-- Tests of all items.
+use Rattle.std.proofs.Common.{◌≡◌, ℕ, zero, suc, ◌+◌, ◌-◌, ◌<◌, Bool, true, false, ◌||◌, Result, Ok, Err, IfOk, refl, sym, ap, ◌∙◌, ◌⊎◌, inl, inr, arith}
+use Rattle.std.specs.Option.{is_none}
+use Rattle.std.specs.declared.alloc.AllocError.{AllocError}
 use Rattle.std.proofs.lemmas.Bool.{cases_lt}
-use Rattle.etx_matter.specs.declared.font.FontInfo.{FontInfo}
 use Rattle.etx_matter.specs.declared.font.LigItem.{LigItem}
 use Rattle.etx_matter.specs.declared.font.LigItem.TheVariants.{Boundary, Glyph}
-use Rattle.etx_matter.specs.Ligatures.{action_between, by_pair, last, any_below, some_item}
-
-pub last_more : (font : FontInfo) (depth : ℕ) (x y : LigItem) → 0 < depth
-    → last font depth x y ≡ by_pair (last font (depth - 1)) x y (action_between font x y)
-unfolding last
-last_more font zero x y h = absurd (omega (arith, h))
-last_more font (suc depth) x y h =
-    let e : suc depth - 1 ≡ depth = omega arith in
-    rw e refl
+use Rattle.etx_matter.specs.declared.font.FontInfo.{FontInfo}
+use Rattle.etx_matter.specs.Ligatures.{any_below, some_item, last, deepest, comes_round}
 
 or_true : (a : Bool) → (a || true) ≡ true
 or_true true = refl
@@ -46,15 +38,16 @@ any_below-none test = refl
 pub any_below-on : (test : ℕ → Bool) (n : ℕ) → any_below test n ≡ false → test n ≡ false → any_below test (n + 1) ≡ false
 any_below-on test n h e = any_below-next test n ∙ rw (e, h) refl
 
-pub last_none : (font : FontInfo) (depth : ℕ) (x y : LigItem) → depth ≡ 0 → last font depth x y ≡ None
-unfolding last
-last_none font depth x y h = rw h refl
-
 pub some_item-here : (test : LigItem → Bool) (code : ℕ) → code < 256 → test (Glyph code) ≡ true → some_item test ≡ true
 some_item-here test code h e =
     ap (λ b. test Boundary || b) (any_below-here (λ n. test (Glyph n)) 256 code h e) ∙ or_true (test Boundary)
 
--- what a test by `is_none` says of the value that was tested
-pub none_as : (o wanted : Option LigItem) (b v : Bool) → o ≡ wanted → is_some o ≡ not b → b ≡ v → is_none wanted ≡ v
-none_as o wanted true v k h e = rw (← k) (rw h e)
-none_as o wanted false v k h e = rw (← k) (rw h e)
+pub some_item-edge : (test : LigItem → Bool) → test Boundary ≡ true → some_item test ≡ true
+some_item-edge test e = ap (λ b. b || any_below (λ code. test (Glyph code)) 256) e
+
+-- ligatures come round where, at the greatest depth, what some pair comes to isn't found
+pub round_from : (font : FontInfo) (depth : ℕ) (r : Result Bool AllocError) → depth ≡ deepest font
+    → IfOk r (λ is_so. is_so ≡ some_item (λ x. some_item (λ y. is_none (last font depth x y)))) → IfOk r (λ round. round ≡ comes_round font)
+unfolding comes_round
+round_from font depth (Ok b) e h = rw (← e) h
+round_from font depth (Err x) e h = tt

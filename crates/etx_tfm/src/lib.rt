@@ -11,6 +11,7 @@ mod header;
 mod lengths;
 mod machine;
 mod numbers;
+mod pairs;
 mod piece;
 mod program;
 mod read;

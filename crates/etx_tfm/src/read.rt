@@ -15,7 +15,7 @@ use crate::settle::has_bad_steps;
 use crate::tables::{read_tables, section, words_in};
 use crate::word::Word;
 use etx_matter::{Dimensions, Font, FontHeader, FontInfo, Size};
-use std::alloc::Global;
+use std::alloc::{AllocError, Global};
 
 /// Damage of the kind [`Short`](Damage::Short).
 #[tactic(auto, unfolding(crate::specs::Lengths::is_short))]
@@ -89,27 +89,32 @@ fn has_bad_parameters(words: &[Word], lengths: &Lengths) -> bool
 
 /// The first kind of damage that the tables have.
 #[tactic(auto, unfolding(crate::specs::Reading::damage_in))]
-fn find_damage(words: &[Word], lengths: &Lengths, font: &FontInfo) -> Option<Damage>
+fn find_damage(
+    alloc: Global,
+    words: &[Word],
+    lengths: &Lengths,
+    font: &FontInfo,
+) -> Result<Option<Damage>, AllocError>
     requires { font.now.first + length font.now.characters ≤ 256 }
-    ensures value { result ≡ damage_in words.now lengths.now font.now }
-    ensures sound { IfNone result (IsSound font.now) }
+    ensures value { IfOk result (λ found. found ≡ damage_in words.now lengths.now font.now) }
+    ensures sound { IfOk result (λ found. IfNone found (IsSound font.now)) }
 {
     if has_bad_characters(font) {
-        return Some(Damage::Char);
+        return Ok(Some(Damage::Char));
     }
     if has_bad_dimensions(words, lengths, font) {
-        return Some(Damage::Dimension);
+        return Ok(Some(Damage::Dimension));
     }
-    if has_bad_steps(font) {
-        return Some(Damage::LigKern);
+    if has_bad_steps(alloc, font)? {
+        return Ok(Some(Damage::LigKern));
     }
     if has_bad_recipes(font) {
-        return Some(Damage::Exten);
+        return Ok(Some(Damage::Exten));
     }
     if has_bad_parameters(words, lengths) {
-        return Some(Damage::Param);
+        return Ok(Some(Damage::Param));
     }
-    None
+    Ok(None)
 }
 
 /// The font whose file has these words behind its lengths, which are right.
@@ -126,7 +131,7 @@ fn read_checked(
     ensures fault { IfErr result (λ fault. IsFaultOf fault (checked header words.now lengths.now)) }
 {
     let info = read_tables(alloc, header, words, lengths)?;
-    match find_damage(words, lengths, &info) {
+    match find_damage(alloc, words, lengths, &info)? {
         Some(damage) => Err(FontFault::BadMetric(damage)),
         None => Ok(Font::new(0, info)),
     }

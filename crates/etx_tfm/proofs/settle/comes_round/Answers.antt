@@ -1,10 +1,14 @@
-use Rattle.std.proofs.Common.{◌∙◌, ap}
+use Rattle.std.proofs.Common.{◌≡◌, sym, ◌∙◌, ap, subst, refl, Ok, Err, IfOk}
 use Rattle.std.specs.Option.{is_none}
 use Rattle.etx_matter.specs.Ligatures.{last, some_item, comes_round}
+use Rattle.etx_tfm.specs.Pairs.{IsTable}
+use Rattle.etx_tfm.proofs.Waiting.{table_first}
+use Rattle.etx_tfm.proofs.Settling.{round_from}
 use Rattle.etx_tfm.proofs.settle.comes_round.Goals as goal
 
+pub is_open-requires-clause-table : goal.is_open-requires-clause-table
+is_open-requires-clause-table c =
+    rw (c.as_mut_slice.ensures.value, c.in_ok-known.ensures) (table_first c.args.font.now 66_049 refl)
+
 pub returns : goal.returns
-unfolding comes_round
-returns c =
-    c.is_open.ensures
-    ∙ ap (λ depth. some_item (λ x. some_item (λ y. is_none (last c.args.font.now depth x y)))) c.deepest.ensures
+returns c = round_from c.args.font.now c.deepest.result c.is_open.result c.deepest.ensures.value c.is_open.ensures
