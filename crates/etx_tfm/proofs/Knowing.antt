@@ -36,7 +36,7 @@ pub last-zero : (font : FontInfo) (x y : LigItem) → last font 0 x y ≡ None
 unfolding last
 last-zero font x y = refl
 
-last-suc : (font : FontInfo) (depth : ℕ) (x y : LigItem) → last font (suc depth) x y ≡ by_task (last font depth) x y (task_between font x y)
+pub last-suc : (font : FontInfo) (depth : ℕ) (x y : LigItem) → last font (suc depth) x y ≡ by_task (last font depth) x y (task_between font x y)
 unfolding last task_between
 last-suc font depth x y = by_task-same (last font depth) x y (action_between font x y)
 

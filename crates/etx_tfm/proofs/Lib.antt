@@ -1,3 +1,4 @@
+pub mod Ending
 pub mod Knowing
 pub mod Passing
 pub mod Programs

@@ -1,10 +1,12 @@
 -- The cursor, one item further.
-use Rattle.std.proofs.Common.{◌≡◌, ℕ, suc, ◌+◌, ◌-◌, ◌<◌, ◌≤◌, Bool, true, List, [], ◌∷◌, ◌++◌, length, drop, refl, sym, subst, ap, ◌∙◌, arith}
+use Rattle.std.proofs.Common.{◌≡◌, ℕ, suc, ◌+◌, ◌-◌, ◌<◌, ◌≤◌, Bool, true, List, [], ◌∷◌, ◌++◌, length, drop, Option, refl, sym, subst, ap, ◌∙◌, arith}
 use Rattle.etx_matter.specs.declared.node.Node.{Node}
+use Rattle.etx_matter.specs.declared.font.PairAction.{PairAction}
 use Rattle.etx_matter.specs.Fonts.{FontState}
+use Rattle.etx_matter.specs.Ligatures.{action_between}
 use Rattle.etx_tfm.specs.declared.piece.Edges.{Edges}
 use Rattle.etx_tfm.specs.declared.piece.Piece.{Piece}
-use Rattle.etx_tfm.specs.Machine.{Place, place, passed, is_end, nodes_of, edges_behind, stepped, Rewrites, over, last, next, ComesTo}
+use Rattle.etx_tfm.specs.Machine.{Place, place, passed, is_end, nodes_of, edges_behind, item_of, by_action, stepped, Rewrites, over, last, next, ComesTo}
 
 pub passed-more : (font : FontState) (n i : ℕ) (written : List Node) (edges : Edges) (x : Piece) (rest : List Piece) → i < n
     → passed font (n - i) written edges (x ∷ rest)
@@ -42,6 +44,12 @@ pub comes-last : (font : FontState) (first : List Node) (none : Edges) (items : 
     → ComesTo font first none items written edges rest → rest ≡ x ∷ [] → written' ≡ written ++ nodes_of font edges true x
     → Rewrites font first none items written'
 comes-last font first none items written written' edges x rest h e k = h written' (rw (e, k) last)
+
+pub stepped-by : (font : FontState) (written : List Node) (edges : Edges) (x y : Piece) (rest : List Piece) (p : Place) (action : Option PairAction)
+    → p ≡ by_action font written edges x y rest action → action ≡ action_between font.info (item_of x) (item_of y)
+    → p ≡ stepped font written edges x y rest
+unfolding stepped
+stepped-by font written edges x y rest p action e k = e ∙ ap (λ a. by_action font written edges x y rest a) k
 
 pub comes-next : (font : FontState) (first : List Node) (none : Edges) (items : List Piece) (written written' : List Node) (edges edges' : Edges) (x y : Piece) (rest behind rest' : List Piece)
     → ComesTo font first none items written edges rest → rest ≡ x ∷ y ∷ behind

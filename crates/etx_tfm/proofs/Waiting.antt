@@ -112,9 +112,10 @@ unfolding Chain EachUnknown
 stay font start top place above [] known end k c climbs u = tt
 stay font start top place above (outer ∷ waiting) known end k c climbs u =
     let next : (depth : ℕ) → end_of font depth top ≡ None → end_of font (depth + suc above) outer ≡ None =
-    λ depth h. onward font outer place depth above c.0 (climbs depth h) in
-    (get-set_other known top outer (Some end) (apart font top outer above end k next) ∙ u.0,
-    stay font start top outer (suc above) waiting known end k c.1 next u.1)
+    λ depth h. onward font outer place depth above c.0 (climbs depth h) in (
+      get-set_other known top outer (Some end) (apart font top outer above end k next) ∙ u.0,
+      stay font start top outer (suc above) waiting known end k c.1 next u.1,
+    )
 
 -- at first nothing is known
 none_noted : (count place : ℕ) (end : End) → slice_get (replicate count None) place ≡ Some (Some end) → ⊥

@@ -1,7 +1,7 @@
 -- The ligatures and kerns of a run of characters: a list that is rewritten at a cursor. "TeX: The Program", sections 545
 -- and 1029 to 1040; there the list is spread over a part that is finished, a character and a stack of ligatures,
 -- and the edges are `lft_hit` and `rt_hit`.
-use Rattle.std.specs.Prelude.{ℕ, zero, suc, Bool, true, false, ◌&&◌, ◌||◌, ℤ, pos, List, [], ◌∷◌, ◌++◌, map, slice_get, Option, None, Some, unwrap_or}
+use Rattle.std.specs.Prelude.{ℕ, zero, suc, min, Bool, true, false, ◌&&◌, ◌||◌, ℤ, pos, List, [], ◌∷◌, ◌++◌, map, slice_get, Option, None, Some, unwrap_or}
 use Rattle.etx_matter.specs.declared.node.Node.{Node, Node-F, roll-Node}
 use Rattle.etx_matter.specs.declared.node.KernKind.TheVariants as kern
 use Rattle.etx_matter.specs.declared.sizes.CharSize.{CharSize}
@@ -127,7 +127,14 @@ letters_unless false x = letters_of x
 abbrev pub made_of : Piece → Piece → ℕ → Bool → Bool → Piece
 made_of x y code keeps_current keeps_next = Made code (letters_unless keeps_current x ++ letters_unless keeps_next y)
 
--- what becomes of the item at the cursor and the next one: where nothing is to be done, the cursor passes over one item
+abbrev pub kept : Bool → Bool → ℕ
+kept true true = 2
+kept true false = 1
+kept false true = 1
+kept false false = 0
+
+-- what becomes of the item at the cursor and the next one: where nothing is to be done, the cursor passes over one item. It
+-- never passes over more items than stay of the two; no step of a TFM file that has a meaning asks for that.
 abbrev pub by_action : FontState → List Node → Edges → Piece → Piece → List Piece → Option PairAction → Place
 by_action font written edges x y rest None = record {
   written = written ++ nodes_of font edges (is_right_edge y) x;
@@ -140,7 +147,7 @@ by_action font written edges x y rest (Some (Kern kern)) = record {
   rest = y ∷ rest;
 }
 by_action font written edges x y rest (Some (Ligature code keeps_current keeps_next passes)) =
-    passed font passes written (edges_with edges x y)
+    passed font (min passes (kept keeps_current keeps_next)) written (edges_with edges x y)
     (item_if keeps_current x ++ made_of x y code keeps_current keeps_next ∷ (item_if keeps_next y ++ rest))
 
 unfoldable pub stepped : FontState → List Node → Edges → Piece → Piece → List Piece → Place

@@ -1,7 +1,9 @@
 //! Ligatures and kerns of a run of characters.
 ghost use Rattle.std.specs.Prelude.{◌≡◌, ◌++◌, ◌∷◌, [], List, OnOk, IfOk};
 ghost use Rattle.etx_matter.specs.declared.node.Node.{Node};
-ghost use Rattle.etx_tfm.specs.Machine.{size_by, size_of, number_at, is_end, no_edges, nodes_of, edges_behind, kern_of, place, passed, item_if, made_of, stepped, Rewrites, ComesTo, edged};
+ghost use Rattle.etx_matter.specs.Ligatures.{action_between};
+ghost use Rattle.etx_matter.specs.Soundness.{IsSound};
+ghost use Rattle.etx_tfm.specs.Machine.{size_by, size_of, number_at, is_end, no_edges, nodes_of, edges_behind, kern_of, place, passed, item_if, kept, item_of, made_of, by_action, Rewrites, ComesTo, edged};
 
 use crate::piece::{Edges, Piece, made_of};
 use crate::program::action_between;
@@ -152,20 +154,41 @@ fn put_if(stays: bool, piece: Piece, rest: &mut VecDeque<Piece>) -> Result<(), A
     Ok(())
 }
 
-/// Does what is to be done between the item at the cursor and the next one.
-#[tactic(auto, unfolding(crate::specs::Machine::stepped))]
+/// How many of two items stay.
+fn kept(keeps_current: bool, keeps_next: bool) -> u8
+    ensures { result ≡ kept keeps_current keeps_next }
+{
+    if keeps_current && keeps_next {
+        2
+    } else if keeps_current || keeps_next {
+        1
+    } else {
+        0
+    }
+}
+
+/// What is to be done between the item at the cursor and the next one.
+fn action_at(font: &Font, current: &Piece, next: &Piece) -> Option<PairAction>
+    ensures action { result ≡ action_between font.now.info (item_of current.now) (item_of next.now) }
+    ensures sound { IsSound font.now.info }
+{
+    action_between(font.info(), current.item(), next.item())
+}
+
+/// Does that.
 fn step(
     alloc: Global,
     font: &Font,
+    action: Option<PairAction>,
     current: Piece,
     next: Piece,
     out: &mut Nodes,
     edges: &mut Edges,
     rest: &mut VecDeque<Piece>,
 ) -> Result<(), AllocError>
-    ensures { OnOk result (place out.new edges.new rest.new.items ≡ stepped font.now out.old edges.old current next rest.old.items) }
+    ensures { OnOk result (place out.new edges.new rest.new.items ≡ by_action font.now out.old edges.old current next rest.old.items action) }
 {
-    match action_between(font.info(), current.item(), next.item()) {
+    match action {
         None => {
             let ends = next.is_right_edge();
             rest.push_front(next)?;
@@ -190,7 +213,8 @@ fn step(
             put_if(keeps_next, next, rest)?;
             rest.push_front(made)?;
             put_if(keeps_current, current, rest)?;
-            pass(font, passes, out, edges, rest)
+            let count = passes.min(kept(keeps_current, keeps_next));
+            pass(font, count, out, edges, rest)
         }
     }
 }
@@ -224,7 +248,7 @@ fn edged(
 /// Program", sections 143 and 1035 to 1040).
 ///
 /// A character that doesn't exist in the font stays as it is, with no program and no size. `Err` comes only where memory
-/// is wanting, or after 2^64 - 1 steps.
+/// is wanting.
 pub fn ligkern(
     alloc: Global,
     font: &Font,
@@ -240,7 +264,7 @@ pub fn ligkern(
         left: false,
         right: false,
     };
-    for _ in 0..u64::MAX {
+    'steps: loop {
         match rest.pop_front() {
             None => return Ok(out),
             Some(current) => match rest.pop_front() {
@@ -248,9 +272,13 @@ pub fn ligkern(
                     write(font, true, current, &mut out, &mut edges)?;
                     return Ok(out);
                 }
-                Some(next) => step(alloc, font, current, next, &mut out, &mut edges, &mut rest)?,
+                Some(next) => {
+                    let action = action_at(font, &current, &next);
+                    step(
+                        alloc, font, action, current, next, &mut out, &mut edges, &mut rest,
+                    )?;
+                }
             },
         }
     }
-    Err(AllocError)
 }

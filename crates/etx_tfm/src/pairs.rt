@@ -107,10 +107,18 @@ fn task_by(
         return Task::Here(made);
     }
     if !keeps_next {
-        return if passes == 0 { Task::Pair(current, made) } else { Task::Here(made) };
+        return if passes == 0 {
+            Task::Pair(current, made)
+        } else {
+            Task::Here(made)
+        };
     }
     if !keeps_current {
-        return if passes == 0 { Task::Pair(made, next) } else { Task::Here(next) };
+        return if passes == 0 {
+            Task::Pair(made, next)
+        } else {
+            Task::Here(next)
+        };
     }
     if passes == 0 {
         Task::Twice(made)

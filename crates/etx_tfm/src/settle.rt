@@ -33,7 +33,14 @@ fn is_open_beside(
         return Ok(true);
     }
     for code in 0..CODES {
-        let is_so = is_open_between(alloc, font, depth, known, current, LigItem::Glyph(code as u8))?;
+        let is_so = is_open_between(
+            alloc,
+            font,
+            depth,
+            known,
+            current,
+            LigItem::Glyph(code as u8),
+        )?;
         if is_so {
             return Ok(true);
         }

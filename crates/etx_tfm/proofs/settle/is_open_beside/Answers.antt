@@ -20,7 +20,8 @@ returns-then-is_so-clause-value c =
     (sym c.in_ok-is_so.ensures.value ∙ c.if-is_so.true))
 
 pub loop-code-preserved : goal.loop-code-preserved
-loop-code-preserved c =
-    (c.in_ok-is_so.ensures.table,
-    any_below-on (λ code. is_none (last c.args.font.now c.args.depth c.args.current (Glyph code))) c.loop-code.code c.loop-code.invariant.1
-    (sym c.in_ok-is_so.ensures.value ∙ c.if-is_so.false))
+loop-code-preserved c = (
+  c.in_ok-is_so.ensures.table,
+  any_below-on (λ code. is_none (last c.args.font.now c.args.depth c.args.current (Glyph code))) c.loop-code.code c.loop-code.invariant.1
+      (sym c.in_ok-is_so.ensures.value ∙ c.if-is_so.false),
+)
