@@ -1,5 +1,5 @@
 -- The machine of ligatures ends: each pair of neighbours comes to something, and each step leaves less work.
-use Rattle.std.proofs.Common.{◌≡◌, ℕ, zero, suc, ◌+◌, ◌-◌, ◌*◌, ◌<◌, ◌≤◌, min, Bool, true, false, eqb, ◌==◌, ◌&&◌, ◌||◌, ltb, List, [], ◌∷◌, ◌++◌, map, length, drop, slice_get, unwrap_or, Option, None, Some, refl, sym, ap, subst, ◌∙◌, ◌⊎◌, inl, inr, arith}
+use Rattle.std.proofs.Common.{◌≡◌, ℕ, zero, suc, ◌+◌, ◌-◌, ◌<◌, ◌≤◌, min, Bool, true, false, ◌==◌, ◌&&◌, ◌||◌, List, [], ◌∷◌, map, drop, unwrap_or, Option, None, Some, refl, sym, ap, subst, ◌∙◌, inl, inr, arith}
 use Rattle.std.specs.Option.{is_none, option_and_then}
 use Rattle.std.proofs.lemmas.Bool.{cases_lt, le-ltb}
 use Rattle.std.proofs.lemmas.Option.{slice_get_past}
@@ -11,7 +11,7 @@ use Rattle.etx_matter.specs.declared.font.LigItem.{LigItem}
 use Rattle.etx_matter.specs.declared.font.LigItem.TheVariants.{Boundary, Glyph}
 use Rattle.etx_matter.specs.declared.font.LigStep.{LigStep}
 use Rattle.etx_matter.specs.declared.font.LigStep.TheVariants.{Pair, Elsewhere}
-use Rattle.etx_matter.specs.Fonts.{FontState, info_at, exists, has_bad_among}
+use Rattle.etx_matter.specs.Fonts.{FontState, info_at, has_bad_among}
 use Rattle.etx_matter.specs.Soundness.{IsSound, has_bad_steps}
 use Rattle.etx_matter.specs.Ligatures.{action_between, found_in, names, last, any_below, some_item, deepest, comes_round, program_of}
 use Rattle.etx_tfm.specs.declared.pairs.Task.{Task}
@@ -19,7 +19,7 @@ use Rattle.etx_tfm.specs.declared.pairs.Task.TheVariants as task
 use Rattle.etx_tfm.specs.declared.piece.Edges.{Edges}
 use Rattle.etx_tfm.specs.declared.piece.Piece.{Piece}
 use Rattle.etx_tfm.specs.Pairs.{task_of, task_between}
-use Rattle.etx_tfm.specs.Machine.{item_of, Place, place, by_action, stepped, passed, edges_with, made_of}
+use Rattle.etx_tfm.specs.Machine.{item_of, place, by_action, stepped, passed, edges_with, made_of}
 use Rattle.etx_tfm.proofs.Knowing.{by_task, last-zero, last-suc, last-by}
 
 -- what is found with so many pairs one within the other is found with one more

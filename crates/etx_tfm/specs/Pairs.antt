@@ -1,7 +1,6 @@
 -- What is known of the pairs of neighbours while it is worked out whether ligatures come round. A pair is a place in a
 -- table of 257 rows of 257: the row is that of the left one, and each row has the characters and then the boundary.
 use Rattle.std.specs.Prelude.{ℕ, zero, suc, ◌≡◌, ◌<◌, ◌≤◌, ◌+◌, ◌/◌, ◌%◌, ◌==◌, if◌then◌else◌, Bool, true, false, List, length, replicate, Option, None, Some, slice_get}
-use Rattle.std.specs.Option.{option_and_then}
 use Rattle.etx_matter.specs.declared.font.PairAction.{PairAction}
 use Rattle.etx_matter.specs.declared.font.PairAction.TheVariants.{Kern, Ligature}
 use Rattle.etx_matter.specs.declared.font.LigItem.{LigItem}

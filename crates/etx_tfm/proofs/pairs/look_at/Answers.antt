@@ -1,5 +1,5 @@
-use Rattle.std.proofs.Common.{◌≡◌, ℕ, ◌+◌, ◌<◌, ◌≤◌, max, Some, None, sym, ap, ◌∙◌, arith}
-use Rattle.etx_tfm.specs.Pairs.{left_of, right_of, IsEnd}
+use Rattle.std.proofs.Common.{◌+◌, ◌≤◌, sym, arith}
+use Rattle.etx_tfm.specs.Pairs.{IsEnd}
 use Rattle.etx_tfm.proofs.Knowing.{ends_here, ends_pair, ends_twice, waits_pair, waits_first, waits_second, known_ends, found_at, waits_at}
 use Rattle.etx_tfm.proofs.pairs.look_at.Goals as goal
 

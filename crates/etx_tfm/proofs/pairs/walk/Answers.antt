@@ -1,4 +1,4 @@
-use Rattle.std.proofs.Common.{◌≡◌, ◌≤◌, ◌<◌, ◌∷◌, sym, length, arith}
+use Rattle.std.proofs.Common.{◌<◌, ◌∷◌, sym, length, arith}
 use Rattle.etx_tfm.proofs.Waiting.{IsWalk, begun, pushed, popped, noted, open_below, open_deep, found_last, falls_noted, nothing_left}
 use Rattle.etx_tfm.proofs.pairs.walk.Goals as goal
 

@@ -1,7 +1,4 @@
-use Rattle.std.proofs.Common.{◌≡◌, sym, ◌∙◌, ap, subst, refl, Ok, Err, IfOk}
-use Rattle.std.specs.Option.{is_none}
-use Rattle.etx_matter.specs.Ligatures.{last, some_item, comes_round}
-use Rattle.etx_tfm.specs.Pairs.{IsTable}
+use Rattle.std.proofs.Common.{refl}
 use Rattle.etx_tfm.proofs.Waiting.{table_first}
 use Rattle.etx_tfm.proofs.Settling.{round_from}
 use Rattle.etx_tfm.proofs.settle.comes_round.Goals as goal

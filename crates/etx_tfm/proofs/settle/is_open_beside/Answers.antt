@@ -1,4 +1,4 @@
-use Rattle.std.proofs.Common.{◌≡◌, true, false, sym, ◌∙◌}
+use Rattle.std.proofs.Common.{sym, ◌∙◌}
 use Rattle.std.specs.Prelude.{is_none}
 use Rattle.etx_matter.specs.declared.font.LigItem.TheVariants.{Glyph}
 use Rattle.etx_matter.specs.Ligatures.{last}
