@@ -89,20 +89,46 @@ fn push_sizes(text: &mut String, font: &Font, code: u8) -> anyhow::Result<()> {
     Ok(())
 }
 
-fn push_font(text: &mut String, font: &Font) -> anyhow::Result<()> {
-    for code in 0..=255u8 {
-        if font.info().has_character(code) {
-            push_sizes(text, font, code)?;
-            push_word(text, font, &[code], true, false)?;
-            push_word(text, font, &[code], false, true)?;
-            for next in 0..=255u8 {
-                if font.info().has_character(next) {
-                    push_word(text, font, &[code, next], false, false)?;
-                }
-            }
+fn push_row(text: &mut String, font: &Font, code: u8) -> anyhow::Result<()> {
+    push_sizes(text, font, code)?;
+    push_word(text, font, &[code], true, false)?;
+    push_word(text, font, &[code], false, true)?;
+    for next in 0..=255u8 {
+        if font.info().has_character(next) {
+            push_word(text, font, &[code, next], false, false)?;
         }
     }
     Ok(())
+}
+
+fn push_font(text: &mut String, font: &Font) -> anyhow::Result<()> {
+    for code in 0..=255u8 {
+        if font.info().has_character(code) {
+            push_row(text, font, code)?;
+        }
+    }
+    Ok(())
+}
+
+fn tell(rt: &HostRuntime, font: &Font, reads_alone: bool) -> anyhow::Result<()> {
+    let mut text = String::new(rt.alloc());
+    if !reads_alone {
+        push_font(&mut text, font)?;
+    }
+    print!(rt; "{text}")?;
+    Ok(())
+}
+
+fn read(rt: &HostRuntime, name: &str, reads_alone: bool) -> anyhow::Result<()> {
+    let bytes = fs::read(rt, name)?;
+    println!(rt; "f {name}")?;
+    match read_font(rt.alloc(), bytes.as_slice(), Size::At(UNIT)) {
+        Ok(font) => tell(rt, &font, reads_alone),
+        Err(fault) => {
+            println!(rt; "bad {fault:?}")?;
+            Ok(())
+        }
+    }
 }
 
 fn main(rt: HostRuntime) -> anyhow::Result<()> {
@@ -110,19 +136,8 @@ fn main(rt: HostRuntime) -> anyhow::Result<()> {
     for name in env::args(&rt)?.skip(1) {
         if name.as_str() == "--read" {
             reads_alone = true;
-            continue;
-        }
-        let bytes = fs::read(&rt, name.as_str())?;
-        println!(rt; "f {name}")?;
-        match read_font(rt.alloc(), bytes.as_slice(), Size::At(UNIT)) {
-            Ok(font) => {
-                let mut text = String::new(rt.alloc());
-                if !reads_alone {
-                    push_font(&mut text, &font)?;
-                }
-                print!(rt; "{text}")?;
-            }
-            Err(fault) => println!(rt; "bad {fault:?}")?,
+        } else {
+            read(&rt, name.as_str(), reads_alone)?;
         }
     }
     Ok(())
@@ -165,7 +180,7 @@ class Metrics:
     """What tftopl says of a font."""
 
     def __init__(self, text):
-        self.sizes, self.program, self.begin, self.boundary = {}, [], {}, None
+        self.sizes, self.program, self.begin, self.boundary, self.rows = {}, [], {}, None, {}
         for item in tree(tokens(text)):
             if item[0] == "BOUNDARYCHAR":
                 self.boundary = number(item[1], item[2])
@@ -189,15 +204,19 @@ class Metrics:
             elif step[0] == "SKIP":
                 self.program[-1][2] = number(step[1], step[2])
 
+    def row(self, left):
+        """What is done behind a character or the edge, for each one that its program names."""
+        if left not in self.rows:
+            row, place = {}, self.begin.get(left)
+            while place is not None:
+                following, action, skip = self.program[place]
+                row.setdefault(following, action)
+                place = None if skip is None else place + skip + 1
+            self.rows[left] = row
+        return self.rows[left]
+
     def action(self, left, right):
-        place = self.begin.get(left)
-        right = self.boundary if right == "edge" else right
-        while place is not None and right is not None:
-            following, action, skip = self.program[place]
-            if following == right:
-                return action
-            place = None if skip is None else place + skip + 1
-        return None
+        return self.row(left).get(self.boundary if right == "edge" else right)
 
     def word(self, word, left, right):
         """What becomes of a word, as the program prints it."""
@@ -234,7 +253,7 @@ class Metrics:
         for code, size in sorted(self.sizes.items()):
             yield "c " + " ".join(map(str, [code] + size))
             words = [([code], True, False), ([code], False, True)]
-            words += [([code, following], False, False) for following in sorted(self.sizes)]
+            words += [([code, following], False, False) for following in sorted(self.sizes) if following in self.row(code)]
             for word, left, right in words:
                 shown = self.word(word, left, right)
                 if shown != "".join(f" c{letter}" for letter in word):
