@@ -26,7 +26,7 @@ import common
 ROWS = os.path.join(common.ROOT, "crates", "etx_job", "src", "call_tests.rt")
 FIRST = "\\catcode`\\{=1 \\catcode`\\}=2 \\catcode`\\#=6\n"
 LAST = "\nNo pages of output.\n"
-STATUS = {"CLEAN": 0, "REPORTED": 1, "CUT": 1}
+STATUS = {"CLEAN_ARGUMENTS": 0, "CLEAN_CALLS": 0, "REPORTED": 1, "CUT": 1}
 TABLE = re.compile(r"const (\w+): &\[Row\] = &\[\n(.*?)\n\];", re.S)
 LITERAL = r'(b"(?:[^"\\]|\\.)*"|br"[^"]*")'
 ROW = re.compile(r"\(\s*" + LITERAL + r",\s*" + LITERAL + r",?\s*\)", re.S)

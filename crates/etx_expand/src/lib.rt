@@ -13,8 +13,8 @@ mod moves;
 mod plan;
 mod printing;
 mod row;
-#[cfg(test)]
-mod tests;
+// (The tests of expansion are jobs: those of `etx_job`, which
+// run each row under the main loop.)
 mod turns;
 
 pub use meaning::{Reading, is_expandable};

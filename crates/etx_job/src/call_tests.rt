@@ -10,8 +10,9 @@ use std::test::Fail;
 /// What stands behind the line that gives braces and `#` their categories, and what is said before the last line.
 type Row = (&'static [u8], &'static [u8]);
 
-/// Jobs that end clean: what stands behind the first line, and what is said before the last line.
-const CLEAN: &[Row] = &[
+/// Jobs that end clean, of arguments and what ends them: what stands behind the first line, and what is said before the last
+/// line. (Tables of more rows are too large to be proved at once.)
+const CLEAN_ARGUMENTS: &[Row] = &[
     // Undelimited parameters.
     (br"\def\a#1#2{#2#1}\message{\a xy}\end", b"yx"),
     (br"\def\a#1{<#1>}\message{\a x\a{yz}\a{}}\end", b"<x><yz><>"),
@@ -172,6 +173,10 @@ const CLEAN: &[Row] = &[
         b"\\def\\a\\par#1{\\message{<#1>}}\\a\\par x\\a\n\ny\\message{z}\\end",
         b"<x> <y> z",
     ),
+];
+
+/// The same, of delimiters and of calls in other commands.
+const CLEAN_CALLS: &[Row] = &[
     // Delimiters that overlap with what precedes them.
     (
         br"\def\a#1aab{<#1>}\message{\a aaab\a aab\a aaaab}\end",
@@ -701,9 +706,18 @@ fn is_right(alloc: Global, row: &Row, status: Status) -> Result<bool, AllocError
 }
 
 #[test]
+fn arguments_without_errors(rt: HostRuntime) -> Result<(), Fail> {
+    let alloc = rt.alloc();
+    for (number, row) in CLEAN_ARGUMENTS.iter().enumerate() {
+        assert!(rt; is_right(alloc, row, Status::Clean)?, "row {number}");
+    }
+    Ok(())
+}
+
+#[test]
 fn calls_without_errors(rt: HostRuntime) -> Result<(), Fail> {
     let alloc = rt.alloc();
-    for (number, row) in CLEAN.iter().enumerate() {
+    for (number, row) in CLEAN_CALLS.iter().enumerate() {
         assert!(rt; is_right(alloc, row, Status::Clean)?, "row {number}");
     }
     Ok(())
