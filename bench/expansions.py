@@ -23,8 +23,8 @@ import common
 CATEGORIES = "\\catcode`\\{=1 \\catcode`\\}=2 \\catcode`\\#=6 "
 KINDS = {
     "no parameter": ("", "", "\\%s"),
-    "one undelimited parameter": ("#1", "x", "\\%s#1"),
-    "one delimited parameter": ("#1.", "x.", "\\%s#1."),
+    "one undelimited parameter": ("#1", " x", "\\%s#1"),
+    "one delimited parameter": ("#1.", " x.", "\\%s#1."),
 }
 
 
@@ -69,7 +69,7 @@ def hottest(folder, count):
     """The functions in which most instructions were, each with its share."""
     output = subprocess.run(["callgrind_annotate", "callgrind.out"], cwd=folder, stdout=subprocess.PIPE, check=False).stdout
     lines = re.findall(rb"^ *[\d,]+ \(\s*([\d.]+)%\)\s+(\S.*)$", output, re.MULTILINE)
-    return [f"{share.decode()}% {re.sub(r'^[^:]*:|[[(].*$', '', name.decode()).strip()}" for share, name in lines if b"PROGRAM TOTALS" not in name][:count]
+    return [f"{share.decode()}% {re.sub(r'^[^:]*:|[\[(].*$', '', name.decode()).strip()}" for share, name in lines if b"PROGRAM TOTALS" not in name][:count]
 
 
 def write(folder, kind, floors):
