@@ -65,11 +65,17 @@ def instructions(command, folder):
     return int(re.search(rb"Collected : (\d+)", output).group(1))
 
 
+def short(name):
+    """A function's name without its file and what stands in brackets behind it."""
+    return re.sub(r"^[^:]*:|[\[(].*$", "", name).strip()
+
+
 def hottest(folder, count):
     """The functions in which most instructions were, each with its share."""
     output = subprocess.run(["callgrind_annotate", "callgrind.out"], cwd=folder, stdout=subprocess.PIPE, check=False).stdout
     lines = re.findall(rb"^ *[\d,]+ \(\s*([\d.]+)%\)\s+(\S.*)$", output, re.MULTILINE)
-    return [f"{share.decode()}% {re.sub(r'^[^:]*:|[\[(].*$', '', name.decode()).strip()}" for share, name in lines if b"PROGRAM TOTALS" not in name][:count]
+    functions = [(share, name) for share, name in lines if b"PROGRAM TOTALS" not in name][:count]
+    return [f"{share.decode()}% {short(name.decode())}" for share, name in functions]
 
 
 def write(folder, kind, floors):
