@@ -4,8 +4,8 @@
     bench/groups.py
 
 It builds a small program over a copy of crates/etx_groups and the crates below it in a folder of its own, with `rt`, and
-runs it: 0, 10, 1000 and 9999 groups are opened, with a local value in each, and then 100000 local assignments, 100000
-global ones, and 100000 groups with an assignment in each are made inside them. What the values were is forgotten after
+runs it: inside 0, 10, 1000 and 9999 groups with a local value in each, 100000 local assignments, 100000 global ones, and
+100000 groups with an assignment in each are made; then the open groups are ended. What the values were is forgotten after
 each step, as the machine does after each turn. It asks that no step inside 9999 groups takes more than 3 times as long as
 outside of all, and that a value takes at most 1000 bytes. It is no part of the gate. Exit status 1 where something is not
 as asked.
@@ -17,11 +17,13 @@ import tempfile
 
 import common
 
-DEPTHS = ["0", "10", "1000", "9999"]
-STEPS = ("local", "global", "in and out")
+DEPTHS = (0, 10, 1000, 9999)
+STEPS = ("local", "global", "in-and-out", "close")
+TIMES = 100000
 VALUES = 1 << 19
 MOST_BYTES = 1000
-PROGRAM = r"""//! Times assignments in and out of groups.
+PROGRAM = r"""//! Times assignments in and out of groups. The words are a step, how many groups are open, how often the step is done,
+//! how many control sequences it turns about, and whether what the values were is kept.
 #![tactic(auto)]
 
 use etx_groups::{assign, assign_global, begin, end};
@@ -33,7 +35,27 @@ use std::env;
 use std::rt::Clock;
 use std::time::Instant;
 
-const TIMES: u32 = 100_000;
+/// What is done again and again.
+#[derive(Clone, Copy, Debug, PartialEq, Eq)]
+enum Step {
+    Local,
+    Global,
+    InAndOut,
+    Open,
+    Close,
+    Nothing,
+}
+
+fn step_of(word: &str) -> Step {
+    match word {
+        "local" => Step::Local,
+        "global" => Step::Global,
+        "in-and-out" => Step::InAndOut,
+        "open" => Step::Open,
+        "close" => Step::Close,
+        _ => Step::Nothing,
+    }
+}
 
 fn opened(alloc: Global) -> Result<State, AllocError> {
     let job = Job::new(Bytes::from_slice(alloc, b"a.tex")?, 1000);
@@ -41,7 +63,7 @@ fn opened(alloc: Global) -> Result<State, AllocError> {
 }
 
 /// A local value for this control sequence.
-fn sets(s: &mut State, name: u32) -> bool {
+fn set(s: &mut State, name: u32) -> bool {
     assign(
         s,
         Key::Meaning(name),
@@ -51,7 +73,7 @@ fn sets(s: &mut State, name: u32) -> bool {
 }
 
 /// A global value for this control sequence.
-fn sets_globally(s: &mut State, name: u32) -> bool {
+fn set_globally(s: &mut State, name: u32) -> bool {
     assign_global(
         s,
         Key::Meaning(name),
@@ -60,132 +82,100 @@ fn sets_globally(s: &mut State, name: u32) -> bool {
     .is_ok()
 }
 
-fn opens(s: &mut State) -> bool {
-    begin(s, GroupKind::Simple).is_ok()
+/// A group is opened, with a local value in it.
+fn open(s: &mut State, name: u32) -> bool {
+    match begin(s, GroupKind::Simple) {
+        Ok(_) => set(s, name),
+        Err(_) => false,
+    }
 }
 
-fn closes(s: &mut State) -> bool {
+fn close(s: &mut State) -> bool {
     end(s).is_ok()
 }
 
-/// Opens so many groups, with a local value in each.
-fn opens_many(s: &mut State, depth: u32) -> bool {
-    for name in 0..depth {
-        if !(opens(s) && sets(s, name % 1024)) {
-            return false;
-        }
-        s.forget();
+/// A group with a local value in it, and its end.
+fn go_in_and_out(s: &mut State, name: u32) -> bool {
+    let went_in = open(s, name);
+    let went_out = close(s);
+    went_in & went_out
+}
+
+fn act(s: &mut State, step: Step, name: u32) -> bool {
+    match step {
+        Step::Local => set(s, name),
+        Step::Global => set_globally(s, name),
+        Step::InAndOut => go_in_and_out(s, name),
+        Step::Open => open(s, name),
+        Step::Close => close(s),
+        Step::Nothing => false,
     }
-    true
 }
 
-fn sets_many(s: &mut State, times: u32) -> bool {
-    for name in 0..times {
-        if !sets(s, name % 1024) {
-            return false;
+/// How often the step went well.
+fn repeat(s: &mut State, step: Step, times: u32, names: u32, keeps: bool) -> u32 {
+    let mut well = 0u32;
+    for count in 0..times {
+        if act(s, step, count % names.max(1)) {
+            well = well.saturating_add(1);
         }
-        s.forget();
-    }
-    true
-}
-
-fn sets_many_globally(s: &mut State, times: u32) -> bool {
-    for name in 0..times {
-        if !sets_globally(s, name % 1024) {
-            return false;
-        }
-        s.forget();
-    }
-    true
-}
-
-/// Groups one after the other, with a local value in each.
-fn goes_in_and_out(s: &mut State, times: u32) -> bool {
-    for name in 0..times {
-        if !(opens(s) && sets(s, name % 1024) && closes(s)) {
-            return false;
-        }
-        s.forget();
-    }
-    true
-}
-
-fn closes_all(s: &mut State) -> u32 {
-    let mut closed = 0u32;
-    for _ in 0..TIMES {
-        if !closes(s) {
-            return closed;
-        }
-        closed = closed.saturating_add(1);
-        s.forget();
-    }
-    closed
-}
-
-fn time(rt: &(impl Print + Clock), s: &mut State, depth: u32) -> anyhow::Result<()> {
-    let well = sets_many_globally(s, 1024) && opens_many(s, depth);
-    let start = Instant::now(rt)?;
-    let well = well && sets_many(s, TIMES);
-    let local = start.elapsed(rt)?;
-    let start = Instant::now(rt)?;
-    let well = well && sets_many_globally(s, TIMES);
-    let global = start.elapsed(rt)?;
-    let start = Instant::now(rt)?;
-    let well = well && goes_in_and_out(s, TIMES);
-    let around = start.elapsed(rt)?;
-    let start = Instant::now(rt)?;
-    let closed = closes_all(s);
-    let ended = start.elapsed(rt)?;
-    println!(rt;
-        "{well} {closed} {} {} {} {}",
-        local.as_micros(),
-        global.as_micros(),
-        around.as_micros(),
-        ended.as_micros()
-    )?;
-    Ok(())
-}
-
-/// So many values, each under a key of its own.
-fn fill(
-    rt: &(impl Print + Clock),
-    s: &mut State,
-    count: u32,
-    locally: bool,
-    forgets: bool,
-) -> anyhow::Result<()> {
-    let mut well = !locally || opens(s);
-    for name in 0..count {
-        well = well
-            && if locally {
-                sets(s, name)
-            } else {
-                sets_globally(s, name)
-            };
-        if forgets {
+        if !keeps {
             s.forget();
         }
     }
-    println!(rt; "{well}")?;
+    well
+}
+
+/// What is asked for.
+#[derive(Clone, Copy, Debug)]
+struct Asked {
+    step: Step,
+    depth: u32,
+    times: u32,
+    names: u32,
+    keeps: bool,
+}
+
+fn measure(rt: &(impl Print + Clock), s: &mut State, asked: Asked) -> anyhow::Result<()> {
+    let named = repeat(s, Step::Global, 1024, 1024, false);
+    let opened = repeat(s, Step::Open, asked.depth, 1024, false);
+    let start = Instant::now(rt)?;
+    let well = repeat(s, asked.step, asked.times, asked.names, asked.keeps);
+    let took = start.elapsed(rt)?;
+    println!(rt; "{named} {opened} {well} {}", took.as_micros())?;
     Ok(())
+}
+
+fn number(word: Option<String>) -> u32 {
+    match word {
+        Some(word) => word.as_str().parse().unwrap_or(0),
+        None => 0,
+    }
 }
 
 fn main(rt: HostRuntime) -> anyhow::Result<()> {
     let alloc = rt.alloc();
     let mut words = env::args(&rt)?.skip(1);
-    let what = words.next().unwrap_or_else(|| String::new(alloc));
-    let number: u32 = match words.next() {
-        Some(word) => word.as_str().parse().unwrap_or(0),
-        None => 0,
+    let step = match words.next() {
+        Some(word) => step_of(word.as_str()),
+        None => Step::Nothing,
     };
+    let depth = number(words.next());
+    let times = number(words.next());
+    let names = number(words.next());
+    let keeps = number(words.next()) == 1;
     let mut s = opened(alloc)?;
-    match what.as_str() {
-        "time" => time(&rt, &mut s, number),
-        "globally" => fill(&rt, &mut s, number, false, true),
-        "locally" => fill(&rt, &mut s, number, true, true),
-        "kept" => fill(&rt, &mut s, number, false, false),
-        _ => Ok(()),
-    }
+    measure(
+        &rt,
+        &mut s,
+        Asked {
+            step,
+            depth,
+            times,
+            names,
+            keeps,
+        },
+    )
 }
 """
 
@@ -195,35 +185,58 @@ def run(program, *words):
     process = subprocess.Popen([program, *words], stdout=subprocess.PIPE, text=True)
     said = process.stdout.read()
     _, _, usage = os.wait4(process.pid, 0)
-    return said.split(), usage.ru_maxrss * 1024
+    return tuple(said.split()), usage.ru_maxrss * 1024
+
+
+def measure(program, step, depth, times, names, keeps=0):
+    """Microseconds and the greatest memory in bytes, or None where something went wrong."""
+    (named, opened, well, micros), memory = run(program, step, *(str(number) for number in (depth, times, names, keeps)))
+    if (named, opened, well) != ("1024", str(depth), str(times)):
+        print(f"{step} inside {depth} groups: {opened} were opened, and it was done {well} times of {times}")
+        return None
+    return int(micros), memory
+
+
+def time_steps(program):
+    """Whether each step went well, inside so many groups, and doesn't take longer inside many of them."""
+    well = True
+    for step in STEPS:
+        each = {}
+        for depth in DEPTHS:
+            times = depth if step == "close" else TIMES
+            if times == 0:
+                continue
+            answer = measure(program, step, depth, times, 1024)
+            if answer is None:
+                return False
+            each[depth] = 1000 * answer[0] / times
+        print(f"{step}: " + ", ".join(f"{took:.0f} ns inside {depth} groups" for depth, took in each.items()))
+        first, last = each[min(each)], each[max(each)]
+        if last > 3 * max(first, 10):
+            print(f"{step}: it takes more than 3 times as long inside {max(each)} groups")
+            well = False
+    return well
+
+
+def weigh_values(program):
+    """Whether each value takes no more memory than is asked."""
+    well = True
+    for kind, step, depth, keeps in (("global", "global", 0, 0), ("local", "local", 1, 0), ("global, what was is kept", "global", 0, 1)):
+        less = measure(program, step, depth, 1, 1, keeps)
+        more = measure(program, step, depth, VALUES, VALUES, keeps)
+        if less is None or more is None:
+            return False
+        each = (more[1] - less[1]) / VALUES
+        print(f"{VALUES} values, {kind}: {each:.0f} bytes each")
+        well = well and each <= MOST_BYTES
+    return well
 
 
 def main():
     with tempfile.TemporaryDirectory() as folder:
         program = common.build_program(folder, "group_bench", PROGRAM, ["etx_groups", "etx_state", "etx_matter", "etx_lists", "anyhow"])
-        bad = []
-        times = {}
-        for depth in DEPTHS:
-            said, _ = run(program, "time", depth)
-            if said[:2] != ["true", depth]:
-                bad.append(f"inside {depth} groups the program went wrong: {said}")
-                continue
-            times[depth] = [int(word) for word in said[2:]]
-            told = ", ".join(f"{step} {micros / 100:.0f} ns" for step, micros in zip(STEPS, times[depth]))
-            print(f"inside {depth} groups: {told}; all ended in {times[depth][3]} us")
-        for kind in ("globally", "locally", "kept"):
-            said, memory = run(program, kind, str(VALUES))
-            each = memory / VALUES
-            print(f"{VALUES} values, {kind}: {each:.0f} bytes each")
-            if said != ["true"] or each > MOST_BYTES:
-                bad.append(f"{VALUES} values, {kind}, are not as asked: {said}")
-    if not bad:
-        for step, (first, last) in zip(STEPS, zip(times[DEPTHS[0]], times[DEPTHS[-1]])):
-            if last > 3 * max(first, 1000):
-                bad.append(f"{step}: inside {DEPTHS[-1]} groups it takes more than 3 times as long")
-    for line in bad:
-        print(line)
-    return 1 if bad else 0
+        well = time_steps(program)
+        return 0 if weigh_values(program) and well else 1
 
 
 if __name__ == "__main__":

@@ -479,6 +479,7 @@ pub fn turn(s: &mut State) -> Result<Turned, AllocError>
 pub fn want(s: &mut State, want: Want) -> Result<(), Capacity>
     ensures ok { OnOk result (mouth_of s.new ≡ wanted want (mouth_of s.old)) }
     ensures full { (result ≡ Err (Capacity.Full Limit.Scans)) ↔ (10000 ≤ length (mouth_of s.old).scans) }
+    ensures only { (limit : Limit) → result ≡ Err (Capacity.Full limit) → limit ≡ Limit.Scans }
     ensures err { OnErr result (s.new ≡ s.old) }
 {
     if s.scans.len() >= MOST_SCANS {

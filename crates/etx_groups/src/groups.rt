@@ -32,6 +32,7 @@ impl From<AllocError> for NoGroup {
 pub fn begin(s: &mut State, kind: GroupKind) -> Result<(), Capacity>
     ensures ok { OnOk result (mouth_of s.new ≡ with_values (begin (mouth_of s.old).values kind) (mouth_of s.old)) }
     ensures full { (result ≡ Err (Capacity.Full Limit.Groups)) ↔ (10000 ≤ level (mouth_of s.old).values) }
+    ensures only { (limit : Limit) → result ≡ Err (Capacity.Full limit) → limit ≡ Limit.Groups }
     ensures unchanged { 10000 ≤ level (mouth_of s.old).values → s.new ≡ s.old }
     ensures rest { OnlyValues (mouth_of s.old) (mouth_of s.new) }
     ensures kept { Keeps s.old s.new }

@@ -275,6 +275,7 @@ impl State {
         ensures number { IfOk result (λ n. n.0 ≡ number_of bytes.now (mouth_of self.old)) }
         ensures ok { OnOk result (mouth_of self.new ≡ with_name bytes.now (mouth_of self.old)) }
         ensures full { (result ≡ Err (Capacity.Full Limit.Names)) ↔ (has_room bytes.now (mouth_of self.old) ≡ false) }
+        ensures only { (limit : Limit) → result ≡ Err (Capacity.Full limit) → limit ≡ Limit.Names }
         ensures err { OnErr result (self.new ≡ self.old) }
         ensures apart { IsApart (mouth_of self.new).names }
         ensures kept { Keeps self.old self.new }
@@ -291,6 +292,7 @@ impl State {
         ensures number { IfOk result (λ n. n.0 ≡ length (mouth_of self.old).names) }
         ensures ok { OnOk result (mouth_of self.new ≡ named (primitive_named bytes.now) bytes.now (mouth_of self.old)) }
         ensures full { (result ≡ Err (Capacity.Full Limit.Names)) ↔ (length (mouth_of self.old).names ≡ 1048576) }
+        ensures only { (limit : Limit) → result ≡ Err (Capacity.Full limit) → limit ≡ Limit.Names }
         ensures err { OnErr result (self.new ≡ self.old) }
         ensures apart { IsApart (mouth_of self.new).names }
         ensures kept { Keeps self.old self.new }
