@@ -129,6 +129,22 @@ impl Levels {
         Ok(())
     }
 
+    /// The next token, where that is one of a list, which the innermost level is. It is what [`Levels::next`] gives, whatever
+    /// the categories and `endline` are. `None` where it has to be asked, and then nothing is changed. Takes no memory.
+    #[tactic(auto, unfolding(crate::specs::Levels::given_of))]
+    pub fn next_listed(&mut self) -> Option<Next>
+        ensures { MatchOption result (self.new ≡ self.old) (λ next. (cats : ℕ → ℕ) → (endline : ℤ) → given_of cats endline self.old ≡ given next self.new) }
+    {
+        match self.give_listed()? {
+            Gift::Stay(next) => Some(next),
+            Gift::Leave(next) => {
+                self.leave();
+                Some(next)
+            }
+            Gift::Empty => None,
+        }
+    }
+
     /// What the innermost level gives. After an `Err` the input is only dropped.
     fn give<C: CatOf>(&mut self, alloc: Global, endline: i32, cats: &C) -> Result<Gift, AllocError>
         ensures gift { IfOk result (λ gift. gift ≡ gift_in (C.category cats.now) endline self.old.levels) }

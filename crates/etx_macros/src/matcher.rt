@@ -16,7 +16,8 @@ use std::marker::Model;
 /// The match of a call against a pattern.
 #[derive(Drop)]
 pub struct Matcher {
-    progress: Progress,
+    /// Behind a `Box`, so that a matcher is cheap to move: a scan that holds one is moved with each token that it gets.
+    progress: Box<Progress>,
 }
 
 impl Model for Matcher {
@@ -26,12 +27,12 @@ impl Model for Matcher {
 
     ghost use Rattle.etx_macros.specs.Seen.{state_of};
 
-    ghost view = { λ it. state_of it.progress };
+    ghost view = { λ it. state_of it.progress.value };
 }
 
 impl Matcher {
     /// A matcher that nothing was fed to. A pattern with no token and no parameter is a complete call at once. It shares
-    /// the pattern, and takes no other memory.
+    /// the pattern.
     #[tactic(auto, unfolding(crate::specs::Feeding::started))]
     pub fn new(alloc: Global, pattern: &Pattern, long: bool) -> Result<Matcher, AllocError>
         ensures state { IfOk result (λ m. m ≡ started pattern.now long) }
@@ -39,8 +40,9 @@ impl Matcher {
         ensures parts { IfOk result (λ m. m.parts ≡ pattern.now) }
         ensures long { IfOk result (λ m. m.long ≡ long) }
     {
+        let progress = Progress::new(alloc, pattern.share()?, long);
         Ok(Matcher {
-            progress: Progress::new(alloc, pattern.share()?, long),
+            progress: Box::new(alloc, progress)?,
         })
     }
 
@@ -85,8 +87,9 @@ impl Matcher {
         self.progress.part > 0 && self.progress.depth == 0 && has_category(token, 2)
     }
 
-    /// Whether a token, where it is fed and taken, is copied into an argument: its delimiter is, until it is known to be
-    /// that. The text before the first parameter isn't, nor are spaces before an undelimited argument.
+    /// Whether a token, where it is fed and taken, is copied to what is read of an argument. The tokens of its delimiter are,
+    /// the last one too, and are taken off again. The text before the first parameter isn't copied, nor are spaces before an
+    /// undelimited argument.
     #[tactic(auto, unfolding(crate::specs::Feeding::is_copied))]
     pub fn is_copied(&self, token: Token) -> bool
         ensures { result ≡ is_copied self.now token }
