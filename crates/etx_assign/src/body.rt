@@ -9,7 +9,7 @@ use crate::definition::{end_definition, mark};
 use crate::failure::fail_into;
 use etx_expand::{Brace, Move, Push, brace_of, push_name};
 use etx_lists::Bytes;
-use etx_matter::{Token, Tokens};
+use etx_matter::{Boxed, Token, Tokens};
 use etx_state::{Definition, Meaning, Scan, State};
 use std::alloc::AllocError;
 
@@ -39,7 +39,7 @@ fn parameter(count: u8, token: Token) -> Option<u8>
 
 /// The body goes on with one token more.
 fn go_on(
-    definition: Definition,
+    definition: Boxed<Definition>,
     depth: u32,
     mut body: Tokens,
     token: Token,
@@ -67,14 +67,14 @@ fn illegal_text(s: &State, name: Token) -> Result<Bytes, AllocError>
 /// No parameter's number stands behind a character of category 6: that character is copied, and the token read again.
 fn refuse_number(
     s: &State,
-    definition: Definition,
+    definition: Boxed<Definition>,
     depth: u32,
     mut body: Tokens,
     before: Token,
 ) -> Result<Move, AllocError>
     ensures { IfOk result (λ go. go ≡ number_refused definition depth body before (mouth_of s.now)) }
 {
-    let text = illegal_text(s, definition.name)?;
+    let text = illegal_text(s, definition.get().name)?;
     body.push(before)?;
     let scan = Scan::DefBody {
         definition,
@@ -88,7 +88,7 @@ fn refuse_number(
 /// A token behind the character of category 6 `before`: the number of a parameter.
 fn number(
     s: &State,
-    definition: Definition,
+    definition: Boxed<Definition>,
     depth: u32,
     body: Tokens,
     before: Token,
@@ -96,7 +96,7 @@ fn number(
 ) -> Result<Move, AllocError>
     ensures { IfOk result (λ go. go ≡ parameter_by (parameter_in definition.count token) definition depth body before token (mouth_of s.now)) }
 {
-    match parameter(definition.count, token) {
+    match parameter(definition.get().count, token) {
         Some(number) => go_on(definition, depth, body, Token::Param(number)),
         None => refuse_number(s, definition, depth, body, before),
     }
@@ -105,7 +105,7 @@ fn number(
 /// A token behind the character of category 6 `before`: another such character, or the number of a parameter.
 fn behind_mark(
     s: &State,
-    definition: Definition,
+    definition: Boxed<Definition>,
     depth: u32,
     body: Tokens,
     before: Token,
@@ -122,7 +122,7 @@ fn behind_mark(
 
 /// A token that is no brace.
 fn copy_or_mark(
-    definition: Definition,
+    definition: Boxed<Definition>,
     depth: u32,
     body: Tokens,
     token: Token,
@@ -148,7 +148,7 @@ fn copy_or_mark(
 /// that nest deeper than a number can count are want of memory.
 fn first_in_body(
     s: &mut State,
-    definition: Definition,
+    definition: Boxed<Definition>,
     depth: u32,
     body: Tokens,
     token: Token,
@@ -166,7 +166,7 @@ fn first_in_body(
         }
         Brace::Right => {
             if depth == 0 {
-                end_definition(s, definition, body)
+                end_definition(s, definition.into_inner(), body)
             } else {
                 go_on(definition, depth - 1, body, token)
             }
@@ -179,7 +179,7 @@ fn first_in_body(
 #[tactic(auto, unfolding(crate::specs::Rows::body_row))]
 pub(crate) fn in_body(
     s: &mut State,
-    definition: Definition,
+    definition: Boxed<Definition>,
     depth: u32,
     body: Tokens,
     mark_before: Option<Token>,

@@ -10,7 +10,7 @@ use crate::failure::{fail_into, fail_past, none, one};
 use etx_expand::{Brace, Move, Push, brace_of};
 use etx_input::SharedTokens;
 use etx_macros::{Pattern, PatternFault};
-use etx_matter::{Token, Tokens};
+use etx_matter::{Boxed, Token, Tokens};
 use etx_state::{Definition, Macro, Meaning, Scan, State, Val};
 use std::alloc::AllocError;
 
@@ -252,7 +252,7 @@ fn behind_mark(
     match brace_of(token) {
         Brace::Left => {
             let definition = ended_by_brace(code, token, definition)?;
-            Ok(Move::Copied(begin_body(s, definition)))
+            Ok(Move::Copied(begin_body(s, definition)?))
         }
         Brace::Right => number(s, code, definition, token),
         Brace::Neither => number(s, code, definition, token),
@@ -260,15 +260,15 @@ fn behind_mark(
 }
 
 /// The scan of a body.
-fn begin_body(s: &State, definition: Definition) -> Scan
-    ensures { result ≡ in_body definition 0 [] None }
+fn begin_body(s: &State, definition: Definition) -> Result<Scan, AllocError>
+    ensures { IfOk result (λ scan. scan ≡ in_body definition 0 [] None) }
 {
-    Scan::DefBody {
-        definition,
+    Ok(Scan::DefBody {
+        definition: Boxed::new(s.alloc(), definition)?,
         depth: 0,
         body: Tokens::new(s.alloc()),
         mark: None,
-    }
+    })
 }
 
 fn text_or_mark(definition: Definition, token: Token, mark: Option<u8>) -> Result<Move, AllocError>
@@ -297,7 +297,7 @@ fn first_in_params(
     ensures go { IfOk result (λ go. go ≡ (params_by (brace_of token) definition token meaning.now (mouth_of s.old).values).go) }
 {
     match brace_of(token) {
-        Brace::Left => Ok(Move::Used(Push::Begin(begin_body(s, definition)))),
+        Brace::Left => Ok(Move::Used(Push::Begin(begin_body(s, definition)?))),
         Brace::Right => end_without_body(s, definition),
         Brace::Neither => text_or_mark(definition, token, mark(meaning)),
     }

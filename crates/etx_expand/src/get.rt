@@ -57,7 +57,7 @@ fn watch_by(scan: &Scan) -> Option<Watch>
         Scan::TextBrace { reader } => Some(Watch::Absorbing(*reader)),
         Scan::Text { reader, .. } => Some(Watch::Absorbing(*reader)),
         Scan::DefParams { definition, .. } => Some(Watch::Defining(definition.name)),
-        Scan::DefBody { definition, .. } => Some(Watch::Defining(definition.name)),
+        Scan::DefBody { definition, .. } => Some(Watch::Defining(definition.get().name)),
         _ => None,
     }
 }

@@ -128,6 +128,6 @@ pub(crate) fn reading_of(scan: &Scan) -> Reading
             definition,
             mark,
             ..
-        } => body_reading(definition.is_expanded, *mark),
+        } => body_reading(definition.get().is_expanded, *mark),
     }
 }

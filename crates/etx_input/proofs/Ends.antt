@@ -17,8 +17,12 @@ innermost xs n d within = ap (reverse {A = Level}) (take-suc xs n d within) ∙ 
 whole : (xs : List Level) (n : ℕ) → suc n ≡ length xs → reverse (take (suc n) xs) ≡ reverse xs
 whole xs n all = ap (λ (k : ℕ). reverse (take k xs)) all ∙ ap (reverse {A = Level}) (take-length xs)
 
+-- the last item is the innermost
+pub all-but-last : (xs : List Level) (n : ℕ) (d : Level) → suc n ≡ length xs → reverse xs ≡ get_or xs n d ∷ reverse (take n xs)
+all-but-last xs n d all = sym (whole xs n all) ∙ innermost xs n d (omega (arith, all))
+
 -- the last item is changed
-changed : (xs : List Level) (n : ℕ) (new : Level) → suc n ≡ length xs → reverse (set xs n new) ≡ new ∷ reverse (take n xs)
+pub changed : (xs : List Level) (n : ℕ) (new : Level) → suc n ≡ length xs → reverse (set xs n new) ≡ new ∷ reverse (take n xs)
 changed xs n new all =
     sym (whole (set xs n new) n (all ∙ sym (length-set xs n new)))
     ∙ ap (reverse {A = Level}) (take-suc-set xs n new (omega (arith, all)))

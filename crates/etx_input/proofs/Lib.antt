@@ -1,4 +1,5 @@
 mod Ends
 mod Lines
+mod Listed
 mod Stack
 mod Taking

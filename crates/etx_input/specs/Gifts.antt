@@ -1,5 +1,5 @@
 -- What the innermost level gives, and what is then left of it.
-use Rattle.std.specs.Prelude.{ℕ, ℤ, List, [], ◌∷◌, Option, Some, None}
+use Rattle.std.specs.Prelude.{◌≡◌, ℕ, ℤ, List, [], ◌∷◌, Option, Some, None}
 use Rattle.etx_lexer.specs.declared.lexed.Lexed.{Lexed}
 use Rattle.etx_matter.specs.declared.token.Token.{Token}
 use Rattle.etx_input.specs.Files.{got_of}
@@ -46,6 +46,17 @@ gift_in cats endline (l ∷ ls) = level_gift cats endline l
 abbrev pub behind_gift : (ℕ → ℕ) → ℤ → List Level → List Level
 behind_gift cats endline [] = []
 behind_gift cats endline (l ∷ ls) = level_behind cats endline l ∷ ls
+
+-- What a level gives whatever the categories and \endlinechar are, and what is left of it. Where it gives nothing so, it is as it was.
+abbrev pub IsListedBy : Gift → Level → Level → Type 0
+IsListedBy Empty old new = new ≡ old
+IsListedBy gift old new = (cats : ℕ → ℕ) → (endline : ℤ) → (level_gift cats endline old ≡ gift) × (new ≡ level_behind cats endline old)
+
+-- What the innermost level gives whatever the categories and \endlinechar are, and the input while that level isn't left. Where
+-- nothing is given so, nothing is changed.
+abbrev pub IsListed : Gift → InputState → InputState → Type 0
+IsListed Empty old new = new ≡ old
+IsListed gift old new = (cats : ℕ → ℕ) → (endline : ℤ) → (gift_in cats endline old.levels ≡ gift) × (new ≡ reading (behind_gift cats endline old.levels) old.left)
 
 -- the innermost level is left; a file's number of lines is kept
 abbrev pub number_left : Level → ℕ → ℕ

@@ -1,7 +1,7 @@
 //! What one level of the input gives.
 ghost use Rattle.std.specs.Prelude.{◌≡◌, IfOk, OnOk};
 ghost use Rattle.etx_input.specs.Files.{got_of};
-ghost use Rattle.etx_input.specs.Gifts.{list_gift, list_behind, file_gift, level_gift, level_behind};
+ghost use Rattle.etx_input.specs.Gifts.{list_gift, list_behind, file_gift, level_gift, level_behind, IsListedBy};
 
 use crate::file::FileInput;
 use crate::level::{Level, ListInput};
@@ -55,6 +55,17 @@ fn give_lexed<C: CatOf>(
 }
 
 impl Level {
+    /// What the level gives, if it is a list.
+    #[tactic(auto, using(crate::proofs::Listed::list_listed))]
+    pub(crate) fn give_listed(&mut self) -> Gift
+        ensures { IsListedBy result self.old self.new }
+    {
+        match self {
+            Level::File(_) => Gift::Empty,
+            Level::List(list) => give_token(list),
+        }
+    }
+
     /// What the level gives. After an `Err` it is only dropped.
     pub(crate) fn give<C: CatOf>(
         &mut self,

@@ -1,6 +1,6 @@
 //! The stack of what is read.
-ghost use Rattle.std.specs.Prelude.{◌≡◌, ◌∷◌, [], ℕ, length, IfOk, OnOk, OnErr, MatchOption};
-ghost use Rattle.etx_input.specs.Gifts.{gift_in, behind_gift, innermost_left};
+ghost use Rattle.std.specs.Prelude.{◌≡◌, ◌∷◌, [], ℕ, ℤ, length, IfOk, OnOk, OnErr, MatchOption};
+ghost use Rattle.etx_input.specs.Gifts.{gift_in, behind_gift, innermost_left, IsListed};
 ghost use Rattle.etx_input.specs.Levels.{no_input, reading, with_list, with_file, given_of, line_number};
 
 use crate::file::FileInput;
@@ -129,13 +129,23 @@ impl Levels {
         Ok(())
     }
 
-    /// The next token, where that is one of a list, which the innermost level is. It is what [`Levels::next`] gives, whatever
-    /// the categories and `endline` are. `None` where it has to be asked, and then nothing is changed. Takes no memory.
-    #[tactic(auto, unfolding(crate::specs::Levels::given_of))]
-    pub fn next_listed(&mut self) -> Option<Next>
-        ensures { MatchOption result (self.new ≡ self.old) (λ next. (cats : ℕ → ℕ) → (endline : ℤ) → given_of cats endline self.old ≡ given next self.new) }
+    /// What a list gives that is the innermost level.
+    fn give_listed(&mut self) -> Gift
+        ensures { IsListed result self.old self.new }
     {
-        match self.give_listed()? {
+        match self.levels.last_mut() {
+            None => Gift::Empty,
+            Some(level) => level.give_listed(),
+        }
+    }
+
+    /// The next token, where the innermost level is a list that has one: it is what [`Levels::next`] gives, whatever the
+    /// categories and `endline` are, which cost nothing so. `None` where they count, and nothing is changed then. Takes no
+    /// memory.
+    pub fn next_listed(&mut self) -> Option<Next>
+        ensures { MatchOption result (self.new ≡ self.old) (λ next. (cats : ℕ → ℕ) → (endline : ℤ) → given_of cats endline self.old ≡ record { next = next; input = self.new }) }
+    {
+        match self.give_listed() {
             Gift::Stay(next) => Some(next),
             Gift::Leave(next) => {
                 self.leave();

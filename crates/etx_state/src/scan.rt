@@ -3,7 +3,7 @@
 use crate::definition::Macro;
 use etx_lists::Bytes;
 use etx_macros::Matcher;
-use etx_matter::{Category, Token, Tokens};
+use etx_matter::{Boxed, Category, Token, Tokens};
 
 /// What stood before a definition or an assignment.
 #[derive(Clone, Copy, Debug, PartialEq, Eq)]
@@ -75,9 +75,10 @@ pub enum Scan {
         definition: Definition,
         mark: Option<u8>,
     },
-    /// A definition's body, in which `depth` braces are open; `mark`: the token of category 6 that was got last.
+    /// A definition's body, in which `depth` braces are open; `mark`: the token of category 6 that was got last. The
+    /// definition stands behind a `Boxed`, since a scan is moved with each token that it gets.
     DefBody {
-        definition: Definition,
+        definition: Boxed<Definition>,
         depth: u32,
         body: Tokens,
         mark: Option<Token>,

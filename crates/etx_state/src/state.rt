@@ -330,6 +330,10 @@ impl State {
         ensures rest { OnlyInput (mouth_of self.old) (mouth_of self.new) }
         ensures kept { Keeps self.old self.new }
     {
+        // Most tokens come from lists, and for these neither the categories nor `\endlinechar` are looked up.
+        if let Some(next) = self.input.next_listed() {
+            return Ok(next);
+        }
         let endline = self.int(IntParam::EndLineChar);
         self.input.next(self.alloc, endline, &self.scopes)
     }
