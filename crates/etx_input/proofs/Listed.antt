@@ -21,9 +21,11 @@ list_listed (t ∷ u ∷ ts) origin = λ cats endline. (refl, refl)
 pub innermost_listed : (gift : Gift) (xs : List Level) (n left : ℕ) (old new : Level) → suc n ≡ length xs → old ≡ get_or xs n old → IsListedBy gift old new → IsListed gift (reading (reverse xs) left) (reading (reverse (set xs n new)) left)
 innermost_listed Empty xs n left old new all is same =
     ap (λ (ls : List Level). reading ls left) (changed xs n new all ∙ ap (λ (l : Level). l ∷ reverse (take n xs)) (same ∙ is) ∙ sym (all-but-last xs n old all))
-innermost_listed (Stay next) xs n left old new all is listed = λ cats endline.
-    (ap (gift_in cats endline) (all-but-last xs n old all) ∙ ap (λ (l : Level). gift_in cats endline (l ∷ reverse (take n xs))) (sym is) ∙ (listed cats endline).0,
-     ap (λ (ls : List Level). reading ls left) (behind-changed cats endline xs n old new all is (listed cats endline).1))
-innermost_listed (Leave next) xs n left old new all is listed = λ cats endline.
-    (ap (gift_in cats endline) (all-but-last xs n old all) ∙ ap (λ (l : Level). gift_in cats endline (l ∷ reverse (take n xs))) (sym is) ∙ (listed cats endline).0,
-     ap (λ (ls : List Level). reading ls left) (behind-changed cats endline xs n old new all is (listed cats endline).1))
+innermost_listed (Stay next) xs n left old new all is listed = λ cats endline. (
+  ap (gift_in cats endline) (all-but-last xs n old all) ∙ ap (λ (l : Level). gift_in cats endline (l ∷ reverse (take n xs))) (sym is) ∙ (listed cats endline).0,
+  ap (λ (ls : List Level). reading ls left) (behind-changed cats endline xs n old new all is (listed cats endline).1),
+)
+innermost_listed (Leave next) xs n left old new all is listed = λ cats endline. (
+  ap (gift_in cats endline) (all-but-last xs n old all) ∙ ap (λ (l : Level). gift_in cats endline (l ∷ reverse (take n xs))) (sym is) ∙ (listed cats endline).0,
+  ap (λ (ls : List Level). reading ls left) (behind-changed cats endline xs n old new all is (listed cats endline).1),
+)
