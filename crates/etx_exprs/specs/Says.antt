@@ -1,0 +1,36 @@
+-- What is said of a part behind others, by the trees alone.
+use Rattle.std.specs.Prelude.{◌≡◌, List, [], ◌∷◌, ◌++◌, Option, Some}
+use Rattle.etx_exprs.specs.declared.value.ValueKind.{ValueKind}
+use Rattle.etx_exprs.specs.declared.part.Part.{Part}
+use Rattle.etx_exprs.specs.declared.part.Part.TheVariants.{Relax}
+use Rattle.etx_exprs.specs.declared.part.Turn.{Turn}
+use Rattle.etx_exprs.specs.declared.part.Turn.TheVariants.{More, Done, DoneBack}
+use Rattle.etx_exprs.specs.Trees.{Expression, expression_parts, IsExpression}
+use Rattle.etx_exprs.specs.Feeding.{ExprState, started, after}
+
+-- these parts are all of a tree of the kind
+pub record IsTree (kind : ValueKind) (parts : List Part) : Type 0 where
+  pub tree : Expression
+  pub kind_is : IsExpression kind tree
+  pub parts_are : parts ≡ expression_parts tree
+
+-- a tree of the kind begins with these parts
+pub record BeginsTree (kind : ValueKind) (parts : List Part) : Type 0 where
+  pub tree : Expression
+  pub rest : List Part
+  pub kind_is : IsExpression kind tree
+  pub parts_are : parts ++ rest ≡ expression_parts tree
+
+-- a `\relax` behind a whole tree ends it and is used up
+abbrev pub EndsTree : ValueKind → List Part → Part → Type 0
+EndsTree kind parts last = (last ≡ Relax) × IsTree kind parts
+
+-- a tree goes on with the last part; the last part ends one; or it can't follow
+abbrev pub Says : Turn → ValueKind → List Part → Part → Type 0
+Says More kind parts last = BeginsTree kind (parts ++ last ∷ [])
+Says Done kind parts last = EndsTree kind parts last
+Says DoneBack kind parts last = (BeginsTree kind (parts ++ last ∷ []) → ⊥) × (EndsTree kind parts last → ⊥)
+
+-- these parts were taken so far by an expression of the kind
+abbrev pub Took : ValueKind → List Part → ExprState → Type 0
+Took kind parts s = after (Some (started kind)) parts ≡ Some s

@@ -1,0 +1,169 @@
+//! An expression, part by part.
+ghost use Rattle.std.specs.Prelude.{◌≡◌, ◌++◌, ◌∷◌, [], List, length, true, IfOk, OnOk, MatchResult, Some, None};
+ghost use Rattle.etx_exprs.specs.declared.part.Part.{Part};
+ghost use Rattle.etx_exprs.specs.Values.{checked};
+ghost use Rattle.etx_exprs.specs.Feeding.{started, fed_of, wanted_of, is_due, is_whole, level_value, operand_fed, operator_fed, open_fed, close_fed, relax_fed};
+
+use crate::level::Level;
+use crate::levels::Levels;
+use crate::part::{Part, Turn};
+use crate::step::checked;
+use crate::sum::Sign;
+use crate::value::{Overflow, Value, ValueKind};
+use std::alloc::{AllocError, Global};
+use std::marker::Model;
+
+/// An expression of e-TeX of which some parts were fed.
+#[derive(Drop)]
+pub struct Expr {
+    /// What stands around the innermost parenthesis that is open.
+    outer: Levels,
+    level: Level,
+}
+
+impl Model for Expr {
+    ghost use Rattle.etx_exprs.specs.Feeding.{ExprState};
+
+    ghost Value = { ExprState };
+
+    ghost view = { λ it. record { outer = it.outer; level = it.level } };
+}
+
+impl Expr {
+    /// An expression of a kind, to which nothing was fed. Takes no memory.
+    #[tactic(auto, unfolding(crate::specs::Feeding::started))]
+    pub fn new(alloc: Global, kind: ValueKind) -> Expr
+        ensures { result ≡ started kind }
+    {
+        Expr {
+            outer: Levels::new(alloc),
+            level: Level::fresh(kind),
+        }
+    }
+
+    /// The kind of operand that is wanted; a `(` may stand there too. `None` where an operator is due.
+    pub fn wanted(&self) -> Option<ValueKind>
+        ensures { result ≡ wanted_of self.now }
+    {
+        self.level.wanted()
+    }
+
+    /// How many parentheses are open.
+    pub fn depth(&self) -> usize
+        ensures { result ≡ length self.now.outer }
+    {
+        self.outer.len()
+    }
+
+    /// Whether the parts that were taken are a whole expression, so that it has a value: no parenthesis is open, and an
+    /// operator is due.
+    #[tactic(auto, unfolding(crate::specs::Feeding::is_whole))]
+    pub fn is_whole(&self) -> bool
+        ensures { result ≡ is_whole self.now }
+    {
+        self.outer.len() == 0 && self.level.is_due()
+    }
+
+    fn feed_operand(&mut self, value: Value) -> Turn
+        ensures turn { result ≡ (operand_fed (wanted_of self.old) self.old value).turn }
+        ensures state { self.new ≡ (operand_fed (wanted_of self.old) self.old value).state }
+    {
+        match self.level.wanted() {
+            None => Turn::DoneBack,
+            Some(kind) => {
+                if value.is_of(kind) {
+                    self.level = self.level.with_factor(checked(value));
+                    Turn::More
+                } else {
+                    Turn::DoneBack
+                }
+            }
+        }
+    }
+
+    fn feed_operator(&mut self, level: Level) -> Turn
+        ensures turn { result ≡ (operator_fed (is_due self.old.level.progress) self.old level).turn }
+        ensures state { self.new ≡ (operator_fed (is_due self.old.level.progress) self.old level).state }
+    {
+        if self.level.is_due() {
+            self.level = level;
+            Turn::More
+        } else {
+            Turn::DoneBack
+        }
+    }
+
+    fn feed_open(&mut self) -> Result<Turn, AllocError>
+        ensures turn { IfOk result (λ turn. turn ≡ (open_fed (wanted_of self.old) self.old).turn) }
+        ensures state { OnOk result (self.new ≡ (open_fed (wanted_of self.old) self.old).state) }
+    {
+        match self.level.wanted() {
+            None => Ok(Turn::DoneBack),
+            Some(kind) => {
+                self.outer.push(self.level)?;
+                self.level = Level::fresh(kind);
+                Ok(Turn::More)
+            }
+        }
+    }
+
+    fn feed_close(&mut self) -> Turn
+        ensures turn { result ≡ (close_fed (is_due self.old.level.progress) self.old).turn }
+        ensures state { self.new ≡ (close_fed (is_due self.old.level.progress) self.old).state }
+    {
+        if !self.level.is_due() {
+            return Turn::DoneBack;
+        }
+        match self.outer.pop() {
+            None => Turn::DoneBack,
+            Some(around) => {
+                self.level = around.with_factor(self.level.value());
+                Turn::More
+            }
+        }
+    }
+
+    fn feed_relax(&self) -> Turn
+        ensures { result ≡ (relax_fed self.now).turn }
+    {
+        if self.outer.len() == 0 && self.level.is_due() {
+            Turn::Done
+        } else {
+            Turn::DoneBack
+        }
+    }
+
+    /// Takes the next part, if it can follow.
+    ///
+    /// `More` where it goes on with an expression, `Done` for a `\relax` behind a whole expression, and `DoneBack` where it
+    /// can't follow: then it isn't taken, and the expression is what it was. So inside parentheses, where e-TeX reports
+    /// `Missing ) inserted for expression`, the caller finds [`Expr::depth`] above 0, feeds `Close`, and then the part again.
+    /// An operand can't follow where another kind is wanted. After an `Err` an expression is only dropped.
+    #[tactic(auto, unfolding(crate::specs::Feeding::fed_of))]
+    pub fn feed(&mut self, part: Part) -> Result<Turn, AllocError>
+        ensures turn { IfOk result (λ turn. turn ≡ (fed_of self.old part).turn) }
+        ensures state { OnOk result (self.new ≡ (fed_of self.old part).state) }
+    {
+        match part {
+            Part::Operand(value) => Ok(self.feed_operand(value)),
+            Part::Plus => Ok(self.feed_operator(self.level.signed(Sign::Plus))),
+            Part::Minus => Ok(self.feed_operator(self.level.signed(Sign::Minus))),
+            Part::Times => Ok(self.feed_operator(self.level.times())),
+            Part::Divide => Ok(self.feed_operator(self.level.divided())),
+            Part::Open => self.feed_open(),
+            Part::Close => Ok(self.feed_close()),
+            Part::Relax => Ok(self.feed_relax()),
+            Part::Other => Ok(Turn::DoneBack),
+        }
+    }
+
+    /// The value of the parts that were taken, which are a whole expression.
+    ///
+    /// `Overflow` exactly where a number that was formed is out of its range, or something was divided by zero.
+    pub fn value(&self) -> Result<Value, Overflow>
+        requires whole { is_whole self.now ≡ true }
+        ensures value { MatchResult result (λ v. level_value self.now.level ≡ Some v) (λ _. level_value self.now.level ≡ None) }
+    {
+        self.level.value().ok_or(Overflow)
+    }
+}

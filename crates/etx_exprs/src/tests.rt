@@ -1,0 +1,1 @@
+// Values that real e-TeX gave.
