@@ -1,2 +1,7 @@
+mod Completeness
+mod Conversions
 mod Numbers
-pub mod Quotients
+mod Quotients
+mod Sayings
+mod Spelling
+mod Steps

@@ -34,3 +34,9 @@ Says DoneBack kind parts last = (BeginsTree kind (parts ++ last ∷ []) → ⊥)
 -- these parts were taken so far by an expression of the kind
 abbrev pub Took : ValueKind → List Part → ExprState → Type 0
 Took kind parts s = after (Some (started kind)) parts ≡ Some s
+
+-- what an expression is behind a part: it took the part too, or it is what it was
+abbrev pub Comes : Turn → ExprState → Part → ExprState → Type 0
+Comes More s part s' = (kind : ValueKind) (parts : List Part) → Took kind parts s → Took kind (parts ++ part ∷ []) s'
+Comes Done s part s' = s' ≡ s
+Comes DoneBack s part s' = s' ≡ s

@@ -1,7 +1,10 @@
 //! An expression, part by part.
-ghost use Rattle.std.specs.Prelude.{◌≡◌, ◌++◌, ◌∷◌, [], List, length, true, IfOk, OnOk, MatchResult, Some, None};
+ghost use Rattle.std.specs.Prelude.{◌≡◌, ◌++◌, ◌∷◌, [], List, length, true, false, IfOk, OnOk, MatchResult, Some, None};
 ghost use Rattle.etx_exprs.specs.declared.part.Part.{Part};
+ghost use Rattle.etx_exprs.specs.declared.value.ValueKind.{ValueKind};
 ghost use Rattle.etx_exprs.specs.Values.{checked};
+ghost use Rattle.etx_exprs.specs.Trees.{Expression, expression_parts, expression_value, IsExpression};
+ghost use Rattle.etx_exprs.specs.Says.{Says, Took, Comes, IsTree};
 ghost use Rattle.etx_exprs.specs.Feeding.{started, fed_of, wanted_of, is_due, is_whole, level_value, operand_fed, operator_fed, open_fed, close_fed, relax_fed};
 
 use crate::level::Level;
@@ -33,7 +36,8 @@ impl Expr {
     /// An expression of a kind, to which nothing was fed. Takes no memory.
     #[tactic(auto, unfolding(crate::specs::Feeding::started))]
     pub fn new(alloc: Global, kind: ValueKind) -> Expr
-        ensures { result ≡ started kind }
+        ensures state { result ≡ started kind }
+        ensures took { Took kind [] result }
     {
         Expr {
             outer: Levels::new(alloc),
@@ -55,13 +59,21 @@ impl Expr {
         self.outer.len()
     }
 
-    /// Whether the parts that were taken are a whole expression, so that it has a value: no parenthesis is open, and an
-    /// operator is due.
     #[tactic(auto, unfolding(crate::specs::Feeding::is_whole))]
-    pub fn is_whole(&self) -> bool
+    fn is_due(&self) -> bool
         ensures { result ≡ is_whole self.now }
     {
         self.outer.len() == 0 && self.level.is_due()
+    }
+
+    /// Whether the parts that were taken are a whole expression, so that it has a value: no parenthesis is open, and an
+    /// operator is due.
+    pub fn is_whole(&self) -> bool
+        ensures value { result ≡ is_whole self.now }
+        ensures whole { result ≡ true → (kind : ValueKind) (parts : List Part) → Took kind parts self.now → IsTree kind parts }
+        ensures part { result ≡ false → (kind : ValueKind) (parts : List Part) → Took kind parts self.now → IsTree kind parts → ⊥ }
+    {
+        self.is_due()
     }
 
     fn feed_operand(&mut self, value: Value) -> Turn
@@ -133,14 +145,8 @@ impl Expr {
         }
     }
 
-    /// Takes the next part, if it can follow.
-    ///
-    /// `More` where it goes on with an expression, `Done` for a `\relax` behind a whole expression, and `DoneBack` where it
-    /// can't follow: then it isn't taken, and the expression is what it was. So inside parentheses, where e-TeX reports
-    /// `Missing ) inserted for expression`, the caller finds [`Expr::depth`] above 0, feeds `Close`, and then the part again.
-    /// An operand can't follow where another kind is wanted. After an `Err` an expression is only dropped.
     #[tactic(auto, unfolding(crate::specs::Feeding::fed_of))]
-    pub fn feed(&mut self, part: Part) -> Result<Turn, AllocError>
+    fn take(&mut self, part: Part) -> Result<Turn, AllocError>
         ensures turn { IfOk result (λ turn. turn ≡ (fed_of self.old part).turn) }
         ensures state { OnOk result (self.new ≡ (fed_of self.old part).state) }
     {
@@ -157,13 +163,36 @@ impl Expr {
         }
     }
 
+    /// Takes the next part, if it can follow.
+    ///
+    /// `More` where it goes on with an expression, `Done` for a `\relax` behind a whole expression, and `DoneBack` where it
+    /// can't follow: then it isn't taken, and the expression is what it was. So inside parentheses, where e-TeX reports
+    /// `Missing ) inserted for expression`, the caller finds [`Expr::depth`] above 0, feeds `Close`, and then the part again.
+    /// An operand can't follow where another kind is wanted. After an `Err` an expression is only dropped.
+    pub fn feed(&mut self, part: Part) -> Result<Turn, AllocError>
+        ensures turn { IfOk result (λ turn. turn ≡ (fed_of self.old part).turn) }
+        ensures state { OnOk result (self.new ≡ (fed_of self.old part).state) }
+        ensures says { IfOk result (λ turn. (kind : ValueKind) (parts : List Part) → Took kind parts self.old → Says turn kind parts part) }
+        ensures comes { IfOk result (λ turn. Comes turn self.old part self.new) }
+    {
+        self.take(part)
+    }
+
+    fn level_value(&self) -> Result<Value, Overflow>
+        ensures { MatchResult result (λ v. level_value self.now.level ≡ Some v) (λ _. level_value self.now.level ≡ None) }
+    {
+        self.level.value().ok_or(Overflow)
+    }
+
     /// The value of the parts that were taken, which are a whole expression.
     ///
     /// `Overflow` exactly where a number that was formed is out of its range, or something was divided by zero.
     pub fn value(&self) -> Result<Value, Overflow>
         requires whole { is_whole self.now ≡ true }
+        ensures tree { (kind : ValueKind) (tree : Expression) → IsExpression kind tree → Took kind (expression_parts tree) self.now →
+            MatchResult result (λ v. expression_value tree ≡ Some v) (λ _. expression_value tree ≡ None) }
         ensures value { MatchResult result (λ v. level_value self.now.level ≡ Some v) (λ _. level_value self.now.level ≡ None) }
     {
-        self.level.value().ok_or(Overflow)
+        self.level_value()
     }
 }

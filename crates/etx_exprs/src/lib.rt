@@ -7,6 +7,7 @@
 
 mod digits;
 mod expr;
+mod law;
 mod level;
 mod levels;
 mod part;
@@ -19,6 +20,10 @@ mod value;
 
 pub use digits::{Digits, TooBig};
 pub use expr::Expr;
+pub use law::{
+    each_tree_is_taken_and_has_its_value, one_thing_is_said_of_a_part, quotients_are_nearest,
+    the_parts_have_one_value, two_steps_convert_alike,
+};
 pub use part::{Part, Turn};
 pub use unit::{TooLarge, Unit, convert};
 pub use value::{Overflow, Value, ValueKind};

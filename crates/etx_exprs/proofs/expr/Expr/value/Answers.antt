@@ -1,0 +1,6 @@
+-- The value is that of the tree.
+use Rattle.etx_exprs.proofs.Sayings.{value_tree}
+use Rattle.etx_exprs.proofs.expr.Expr.value.Goals as goal
+
+pub returns-clause-tree : goal.returns-clause-tree
+returns-clause-tree c = λ kind tree is took. value_tree c.level_value.result kind tree c.args.self.now c.level_value.ensures is took
