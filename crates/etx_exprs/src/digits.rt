@@ -35,7 +35,9 @@ impl Model for Digits {
 const GREATEST: u64 = 2_147_483_647;
 
 const OTHER: u8 = 12;
+
 const LETTER: u8 = 11;
+
 const SPACE: u8 = 10;
 
 fn is_decimal(base: u8, code: u8, cat: u8) -> bool
@@ -86,11 +88,7 @@ fn within(n: u64) -> Option<u32>
     ensures value { result ≡ within n }
     ensures small { IfSome result (λ n. n ≤ 2147483647) }
 {
-    if n <= GREATEST {
-        Some(n as u32)
-    } else {
-        None
-    }
+    if n <= GREATEST { Some(n as u32) } else { None }
 }
 
 fn number_with(number: Option<u32>, base: u8, digit: u8) -> Option<u32>

@@ -173,10 +173,8 @@ pub fn convert(unit: Unit, whole: i32, frac: i32, mag: i32) -> Result<i32, TooLa
     requires whole { pos 0 ≤ℤ whole }
     requires frac { (pos 0 ≤ℤ frac) × (frac ≤ℤ pos 65536) }
     requires mag { (pos 1 ≤ℤ mag) × (mag ≤ℤ pos 32768) }
-    ensures {
-        let size = converted unit (unsigned_abs whole) (unsigned_abs frac) (unsigned_abs mag) in
-        MatchResult result (λ z. (z ≡ pos size) × (size < 2 ^ 30)) (λ _. 2 ^ 30 ≤ size)
-    }
+    ensures { let size = converted unit (unsigned_abs whole) (unsigned_abs frac) (unsigned_abs mag) in
+        MatchResult result (λ z. (z ≡ pos size) × (size < 2 ^ 30)) (λ _. 2 ^ 30 ≤ size) }
 {
     let size = size(
         unit,
