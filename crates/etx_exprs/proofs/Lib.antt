@@ -1,6 +1,7 @@
 mod Completeness
 mod Conversions
 mod Numbers
+mod Places
 mod Quotients
 mod Sayings
 mod Spelling

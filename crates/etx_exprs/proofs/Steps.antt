@@ -179,7 +179,7 @@ close_spelled true top [] l is sum progress nests more = cc
 close_spelled true top (around ∷ outer) l is sum progress nests more =
     let d = due_term l.progress is in close_around top around outer l d.term d.is sum progress nests
 
-never_more : {A : Type 0} (ls : List Level) (b : Bool) → ended_in ls b ≡ More → A
+pub never_more : {A : Type 0} (ls : List Level) (b : Bool) → ended_in ls b ≡ More → A
 never_more [] true e = cc
 never_more [] false e = cc
 never_more (l ∷ ls) b e = cc
@@ -222,18 +222,17 @@ pub after_none : (ps : List Part) → after None ps ≡ None
 after_none [] = refl
 after_none (p ∷ ps) = after_none ps
 
-goes : (t : Turn) (s' : ExprState) (top : ValueKind) (parts ps : List Part) (s : ExprState) → after (gone_on t s') ps ≡ Some s →
-    (t ≡ More → after (Some s') ps ≡ Some s → Spelled top parts s) → Spelled top parts s
-goes More s' top parts ps s e h = h refl e
-goes Done s' top parts ps s e h = let none : after None ps ≡ None = after_none ps in cc
-goes DoneBack s' top parts ps s e h = let none : after None ps ≡ None = after_none ps in cc
+pub goes : {P : Type 0} (t : Turn) (s' : ExprState) (ps : List Part) (s : ExprState) → after (gone_on t s') ps ≡ Some s → (t ≡ More → after (Some s') ps ≡ Some s → P) → P
+goes More s' ps s e h = h refl e
+goes Done s' ps s e h = let none : after None ps ≡ None = after_none ps in cc
+goes DoneBack s' ps s e h = let none : after None ps ≡ None = after_none ps in cc
 
 spelled_after : (top : ValueKind) (ps parts : List Part) (s s' : ExprState) → Spelled top parts s → after (Some s) ps ≡ Some s' → Spelled top (parts ++ ps) s'
 spelled_after top [] parts s s' h e =
     let same : s ≡ s' = cc in
     subst (λ (xs : List Part). Spelled top xs s') (sym (append-nil parts)) (subst (Spelled top parts) same h)
 spelled_after top (p ∷ ps) parts s s' h e =
-    goes (fed_of s p).turn (fed_of s p).state top (parts ++ p ∷ ps) ps s' e
+    goes (fed_of s p).turn (fed_of s p).state ps s' e
     (λ more rest. subst (λ (xs : List Part). Spelled top xs s') (append_assoc parts (p ∷ []) ps)
     (spelled_after top ps (parts ++ p ∷ []) (fed_of s p).state s' (spelled_on top parts s p h more) rest))
 

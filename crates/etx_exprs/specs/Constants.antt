@@ -1,5 +1,5 @@
 -- The digits of an integer constant, by "TeX: The Program", sections 444 and 445.
-use Rattle.std.specs.Prelude.{◌≡◌, ◌⊎◌, ℕ, ◌+◌, ◌-◌, ◌*◌, ◌^◌, ◌==◌, nat_lt, nat_le, Bool, true, false, ◌&&◌, ◌||◌, if◌then◌else◌, List, [], ◌∷◌, length, Option, Some, None}
+use Rattle.std.specs.Prelude.{◌≡◌, ◌⊎◌, ℕ, ◌+◌, ◌-◌, ◌*◌, ◌^◌, ◌==◌, nat_lt, nat_le, Bool, true, false, not, ◌&&◌, ◌||◌, if◌then◌else◌, List, [], ◌∷◌, length, Option, Some, None}
 use Rattle.etx_matter.specs.declared.token.Token.{Token}
 use Rattle.etx_matter.specs.declared.token.Token.TheVariants.{Char, Name, Param}
 use Rattle.etx_exprs.specs.declared.part.Turn.{Turn}
@@ -32,15 +32,6 @@ is_space (Char code cat) = cat == 10
 is_space (Name name) = false
 is_space (Param n) = false
 
--- what is said of a token: a digit goes on, a space ends the constant, and all else stands behind it
-abbrev pub turn_at : Option ℕ → Bool → Turn
-turn_at (Some digit) _ = More
-turn_at None true = Done
-turn_at None false = DoneBack
-
-abbrev pub digit_turn : ℕ → Token → Turn
-digit_turn base t = turn_at (digit_of base t) (is_space t)
-
 -- the number that digits stand for
 abbrev pub number_of : ℕ → List ℕ → ℕ
 number_of base [] = 0
@@ -55,6 +46,15 @@ pub record DigitsState : Type 0 where
   pub base : ℕ
   pub number : Option ℕ
   pub empty : Bool
+
+-- what is said of a token: a digit goes on, a space behind a digit ends the constant, and all else stands behind it
+abbrev pub turn_at : Option ℕ → Bool → Turn
+turn_at (Some digit) _ = More
+turn_at None true = Done
+turn_at None false = DoneBack
+
+abbrev pub digit_turn : DigitsState → Token → Turn
+digit_turn s t = turn_at (digit_of s.base t) (not s.empty && is_space t)
 
 -- with a digit more
 abbrev pub number_with : Option ℕ → ℕ → ℕ → Option ℕ

@@ -1,8 +1,8 @@
 -- What is said of a part behind others, by the trees alone.
-use Rattle.std.specs.Prelude.{◌≡◌, List, [], ◌∷◌, ◌++◌, Option, Some}
+use Rattle.std.specs.Prelude.{◌≡◌, ℕ, ◌+◌, List, [], ◌∷◌, ◌++◌, Option, Some}
 use Rattle.etx_exprs.specs.declared.value.ValueKind.{ValueKind}
 use Rattle.etx_exprs.specs.declared.part.Part.{Part}
-use Rattle.etx_exprs.specs.declared.part.Part.TheVariants.{Relax}
+use Rattle.etx_exprs.specs.declared.part.Part.TheVariants.{Open, Close, Relax}
 use Rattle.etx_exprs.specs.declared.part.Turn.{Turn}
 use Rattle.etx_exprs.specs.declared.part.Turn.TheVariants.{More, Done, DoneBack}
 use Rattle.etx_exprs.specs.Trees.{Expression, expression_parts, IsExpression}
@@ -40,3 +40,20 @@ abbrev pub Comes : Turn → ExprState → Part → ExprState → Type 0
 Comes More s part s' = (kind : ValueKind) (parts : List Part) → Took kind parts s → Took kind (parts ++ part ∷ []) s'
 Comes Done s part s' = s' ≡ s
 Comes DoneBack s part s' = s' ≡ s
+
+-- how many parentheses these parts open, and close
+abbrev pub open_of : Part → ℕ
+open_of Open = 1
+open_of _ = 0
+
+abbrev pub close_of : Part → ℕ
+close_of Close = 1
+close_of _ = 0
+
+abbrev pub opens : List Part → ℕ
+opens [] = 0
+opens (p ∷ ps) = open_of p + opens ps
+
+abbrev pub closes : List Part → ℕ
+closes [] = 0
+closes (p ∷ ps) = close_of p + closes ps

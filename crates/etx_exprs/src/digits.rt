@@ -125,10 +125,10 @@ impl Digits {
     /// Takes the next token, if it belongs to the constant.
     ///
     /// `More` for a digit: the characters `0` to `9` of category 12 below the base, and in base 16 also `A` to `F` of
-    /// category 11 or 12. `Done` for a character of category 10, and `DoneBack` for all else. A control sequence that stands
+    /// category 11 or 12. `Done` for a character of category 10 behind a digit, and `DoneBack` for all else. A control sequence that stands
     /// for a space is for the caller to know. ("TeX: The Program", sections 444 and 445.)
     pub fn feed(&mut self, t: Token) -> Turn
-        ensures turn { result ≡ digit_turn self.old.base t }
+        ensures turn { result ≡ digit_turn self.old t }
         ensures state { self.new ≡ digits_fed self.old t }
         ensures stands { (digits : List ℕ) → StandsFor self.old digits → StandsFor self.new (digits ++ option_to_list (digit_of self.old.base t)) }
     {
@@ -139,7 +139,7 @@ impl Digits {
                 Turn::More
             }
             None => {
-                if is_space(t) {
+                if !self.empty && is_space(t) {
                     Turn::Done
                 } else {
                     Turn::DoneBack

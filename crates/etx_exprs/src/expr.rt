@@ -1,10 +1,13 @@
 //! An expression, part by part.
-ghost use Rattle.std.specs.Prelude.{◌≡◌, ◌++◌, ◌∷◌, [], List, length, true, false, IfOk, OnOk, MatchResult, Some, None};
+ghost use Rattle.std.specs.Prelude.{◌≡◌, ◌↔◌, ◌+◌, ◌++◌, ◌∷◌, [], List, length, true, false, IfOk, OnOk, MatchResult, Some, None};
 ghost use Rattle.etx_exprs.specs.declared.part.Part.{Part};
 ghost use Rattle.etx_exprs.specs.declared.value.ValueKind.{ValueKind};
-ghost use Rattle.etx_exprs.specs.Values.{checked};
+ghost use Rattle.etx_exprs.specs.declared.value.Value.{Value};
+ghost use Rattle.etx_exprs.specs.Values.{checked, kind_of};
 ghost use Rattle.etx_exprs.specs.Trees.{Expression, expression_parts, expression_value, IsExpression};
-ghost use Rattle.etx_exprs.specs.Says.{Says, Took, Comes, IsTree};
+ghost use Rattle.etx_exprs.specs.Says.{Says, Took, Comes, IsTree, opens, closes};
+ghost use Rattle.etx_exprs.specs.declared.part.Part.TheVariants as part;
+ghost use Rattle.etx_exprs.specs.declared.part.Turn.TheVariants.{More};
 ghost use Rattle.etx_exprs.specs.Feeding.{started, fed_of, wanted_of, is_due, is_whole, level_value, operand_fed, operator_fed, open_fed, close_fed, relax_fed};
 
 use crate::level::Level;
@@ -47,14 +50,16 @@ impl Expr {
 
     /// The kind of operand that is wanted; a `(` may stand there too. `None` where an operator is due.
     pub fn wanted(&self) -> Option<ValueKind>
-        ensures { result ≡ wanted_of self.now }
+        ensures value { result ≡ wanted_of self.now }
+        ensures fits { (v : Value) → ((fed_of self.now (part.Operand v)).turn ≡ More) ↔ (result ≡ Some (kind_of v)) }
     {
         self.level.wanted()
     }
 
     /// How many parentheses are open.
     pub fn depth(&self) -> usize
-        ensures { result ≡ length self.now.outer }
+        ensures value { result ≡ length self.now.outer }
+        ensures parts { (kind : ValueKind) (parts : List Part) → Took kind parts self.now → result + closes parts ≡ opens parts }
     {
         self.outer.len()
     }

@@ -1,4 +1,6 @@
 // Values that real e-TeX gave, and each public function once.
+ghost use Rattle.etx_exprs.specs.Constants.{IsBase};
+
 use crate::{Digits, Expr, Part, TooBig, Turn, Unit, Value, ValueKind, convert};
 use etx_matter::{Glue, GlueOrder, NameId, Token};
 use std::alloc::{AllocError, Global};
@@ -390,7 +392,9 @@ fn digit(code: u8) -> Token {
     Token::Char { code, cat: 12 }
 }
 
-fn constant(base: u8, text: &[u8]) -> Result<i32, TooBig> {
+fn constant(base: u8, text: &[u8]) -> Result<i32, TooBig>
+    requires { IsBase base }
+{
     let mut digits = Digits::new(base);
     for code in text {
         let _turn = digits.feed(digit(*code));
@@ -415,6 +419,12 @@ fn constants(rt: HostRuntime) {
 fn what_ends_a_constant(rt: HostRuntime) {
     let mut digits = Digits::new(16);
     assert!(rt; digits.is_empty());
+    assert!(rt;
+        digits.feed(Token::Char {
+            code: b' ',
+            cat: 10
+        }) == Turn::DoneBack
+    );
     assert!(rt;
         digits.feed(Token::Char {
             code: b'F',
