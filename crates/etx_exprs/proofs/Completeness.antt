@@ -1,20 +1,19 @@
 -- The parts of a tree are taken, and leave its value.
-use Rattle.std.proofs.Common.{◌≡◌, Bool, true, List, [], ◌∷◌, ◌++◌, Option, Some, None, refl, sym, ap, subst, ◌∙◌, append_assoc, append-nil}
+use Rattle.std.proofs.Common.{◌≡◌, true, List, [], ◌∷◌, ◌++◌, Option, Some, None, refl, sym, ap, ◌∙◌, append_assoc, append-nil}
 use Rattle.etx_exprs.specs.declared.value.Value.{Value}
 use Rattle.etx_exprs.specs.declared.value.ValueKind.{ValueKind}
 use Rattle.etx_exprs.specs.declared.value.ValueKind.TheVariants.{Int}
 use Rattle.etx_exprs.specs.declared.part.Part.{Part}
 use Rattle.etx_exprs.specs.declared.part.Part.TheVariants as part
-use Rattle.etx_exprs.specs.declared.sum.Sign.{Sign}
 use Rattle.etx_exprs.specs.declared.sum.Sign.TheVariants as sign
 use Rattle.etx_exprs.specs.declared.level.Sum.{Sum}
 use Rattle.etx_exprs.specs.declared.level.Sum.TheVariants.{Nothing, Before}
 use Rattle.etx_exprs.specs.declared.level.Progress.{Progress}
-use Rattle.etx_exprs.specs.declared.level.Progress.TheVariants.{Begins, Lone, Whole, Product, Times, Over, Scale}
+use Rattle.etx_exprs.specs.declared.level.Progress.TheVariants.{Begins, Lone, Whole, Product, Times}
 use Rattle.etx_exprs.specs.declared.level.Level.{Level}
-use Rattle.etx_exprs.specs.Values.{is_of, checked, product, quotient, scaled, normalized, sum_of}
+use Rattle.etx_exprs.specs.Values.{is_of, checked, sum_of}
 use Rattle.etx_exprs.specs.Trees.{Expression, first, plus, minus, Term, lone, times, over, Factor, operand, parens, expression_parts, term_parts, factor_parts, IsExpression, IsTerm, IsFactor, term_begun, expression_begun, expression_value, term_value, factor_value}
-use Rattle.etx_exprs.specs.Feeding.{ExprState, fresh, started, wanted_by, wanted_of, is_due, with_factor, value_so_far, value_begun, level_value, level_begun, behind_sign, behind_times, divided_progress, behind_divide, behind_factor, fed_of, next, after}
+use Rattle.etx_exprs.specs.Feeding.{ExprState, fresh, started, wanted_by, wanted_of, is_due, with_factor, value_so_far, value_begun, level_value, level_begun, behind_sign, behind_times, divided_progress, behind_divide, behind_factor, fed_of, after}
 
 abbrev pub at : List Level → Level → ExprState
 at outer level = record { outer = outer; level = level }

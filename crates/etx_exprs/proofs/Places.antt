@@ -11,7 +11,7 @@ use Rattle.etx_exprs.specs.declared.level.Level.{Level}
 use Rattle.etx_exprs.specs.Values.{kind_of, is_of, checked}
 use Rattle.etx_exprs.specs.Feeding.{ExprState, started, wanted_of, is_due, behind_factor, fed_of, after, on, refused, operand_fed, open_fed, operator_fed, close_fed, close_in}
 use Rattle.etx_exprs.specs.Says.{Took, open_of, close_of, opens, closes}
-use Rattle.etx_exprs.proofs.Steps.{goes, never_more}
+use Rattle.etx_exprs.proofs.Steps.{goes}
 
 -- the kind that an operand is of
 own_kind : (v : Value) → is_of (kind_of v) v ≡ true

@@ -1,5 +1,5 @@
 -- Quotients by a negative divisor.
-use Rattle.std.proofs.Common.{◌≡◌, ℤ, pos, negsuc, zero, suc, neg_ℤ, ◌-ℤ◌, ◌*ℤ◌, ◌≤ℤ◌, ◌<ℤ◌, ◌≤◌, ◌*◌, ◌≢◌, ℕ, unsigned_abs, false, arith, ap, refl, sym, ◌∙◌}
+use Rattle.std.proofs.Common.{◌≡◌, ℤ, pos, negsuc, zero, suc, neg_ℤ, ◌-ℤ◌, ◌*ℤ◌, ◌≤ℤ◌, ◌<ℤ◌, ◌*◌, ◌≢◌, ℕ, unsigned_abs, false, arith, ap, refl, sym, ◌∙◌}
 use Rattle.std.proofs.lemmas.Int.{ints}
 use Rattle.etx_scaled.specs.Rounding.{IsNearest, nearest}
 use Rattle.etx_exprs.specs.Values.{divided, is_zero}

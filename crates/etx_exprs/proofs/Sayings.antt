@@ -1,5 +1,5 @@
 -- What is said of a part is what is true of the trees.
-use Rattle.std.proofs.Common.{◌≡◌, ◌↔◌, Bool, true, false, if◌then◌else◌, List, [], ◌∷◌, ◌++◌, Option, Some, None, Result, Ok, Err, IfOk, OnOk, MatchResult, is_some, refl, sym, ap, subst, ◌∙◌, append_assoc}
+use Rattle.std.proofs.Common.{◌≡◌, ◌↔◌, Bool, true, false, if◌then◌else◌, List, [], ◌∷◌, ◌++◌, Option, Some, None, Result, Ok, Err, IfOk, OnOk, MatchResult, is_some, refl, sym, ap, subst, ◌∙◌}
 use Rattle.etx_exprs.specs.declared.value.Value.{Value}
 use Rattle.etx_exprs.specs.declared.value.ValueKind.{ValueKind}
 use Rattle.etx_exprs.specs.declared.part.Part.{Part}
@@ -9,9 +9,9 @@ use Rattle.etx_exprs.specs.declared.part.Turn.TheVariants.{More, Done, DoneBack}
 use Rattle.etx_exprs.specs.declared.level.Level.{Level}
 use Rattle.etx_exprs.specs.Values.{is_of, checked}
 use Rattle.etx_exprs.specs.Trees.{Expression, expression_parts, IsExpression, expression_value}
-use Rattle.etx_exprs.specs.Feeding.{ExprState, started, wanted_by, wanted_of, is_due, level_value, behind_factor, fed_of, gone_on, next, after, is_whole, is_whole_in, operand_fed, open_fed, operator_fed, close_fed, close_in, ended_in, on, refused}
+use Rattle.etx_exprs.specs.Feeding.{ExprState, started, wanted_of, is_due, level_value, behind_factor, fed_of, gone_on, next, after, is_whole, operand_fed, open_fed, operator_fed, close_fed, close_in, ended_in, on, refused}
 use Rattle.etx_exprs.specs.Says.{IsTree, BeginsTree, EndsTree, Says, Took, Comes}
-use Rattle.etx_exprs.proofs.Completeness.{at, level_of, last_term, due_of, tree_taken, tree_state, tree_value, same_state}
+use Rattle.etx_exprs.proofs.Completeness.{at, level_of, last_term, due_of, tree_taken, tree_state, tree_value}
 use Rattle.etx_exprs.proofs.Steps.{after_none, begins_tree, is_tree}
 
 after-append : (ps qs : List Part) (s : Option ExprState) → after s (ps ++ qs) ≡ after (after s ps) qs

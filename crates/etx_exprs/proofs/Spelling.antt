@@ -1,13 +1,9 @@
 -- What was taken so far as the beginning of a tree: the terms, and the factors of the last one, at each level.
-use Rattle.std.proofs.Common.{◌≡◌, Bool, true, false, List, [], ◌∷◌, ◌++◌, map, Option, Some, None, refl, sym, ap, subst, ◌∙◌, append_assoc, append-nil}
-use Rattle.etx_exprs.specs.declared.value.Value.{Value}
-use Rattle.etx_exprs.specs.declared.value.Value.TheVariants as value
+use Rattle.std.proofs.Common.{◌≡◌, List, [], ◌∷◌, ◌++◌, Some, None, refl, sym, ap, subst, ◌∙◌, append_assoc}
 use Rattle.etx_exprs.specs.declared.value.ValueKind.{ValueKind}
 use Rattle.etx_exprs.specs.declared.value.ValueKind.TheVariants as kinds
 use Rattle.etx_exprs.specs.declared.part.Part.{Part}
 use Rattle.etx_exprs.specs.declared.part.Part.TheVariants as part
-use Rattle.etx_exprs.specs.declared.part.Turn.{Turn}
-use Rattle.etx_exprs.specs.declared.part.Turn.TheVariants.{More, Done, DoneBack}
 use Rattle.etx_exprs.specs.declared.sum.Sign.{Sign}
 use Rattle.etx_exprs.specs.declared.sum.Sign.TheVariants as sign
 use Rattle.etx_exprs.specs.declared.level.Sum.{Sum}
@@ -15,11 +11,10 @@ use Rattle.etx_exprs.specs.declared.level.Sum.TheVariants.{Nothing, Before}
 use Rattle.etx_exprs.specs.declared.level.Progress.{Progress}
 use Rattle.etx_exprs.specs.declared.level.Progress.TheVariants.{Begins, Times}
 use Rattle.etx_exprs.specs.declared.level.Level.{Level}
-use Rattle.etx_exprs.specs.Values.{is_of, checked, sum_of}
-use Rattle.etx_exprs.specs.Trees.{Expression, first, plus, minus, Term, lone, times, over, Factor, operand, parens, expression_parts, term_parts, factor_parts, IsExpression, IsTerm, IsFactor, term_begun, expression_begun, expression_value, term_value, factor_value}
-use Rattle.etx_exprs.specs.Feeding.{ExprState, FedBy, fresh, started, wanted_by, wanted_of, is_due, with_factor, level_value, level_begun, value_so_far, behind_sign, behind_times, divided_progress, behind_divide, behind_factor, fed_of, next, after, is_whole, operand_fed, open_fed}
-use Rattle.etx_exprs.specs.Says.{IsTree, BeginsTree}
-use Rattle.etx_exprs.proofs.Completeness.{at, level, progress_of, value_of_progress, begun_of_progress, due_of, none_wanted, wanted_divided, divided_of}
+use Rattle.etx_exprs.specs.Values.{sum_of}
+use Rattle.etx_exprs.specs.Trees.{Expression, first, plus, minus, Term, lone, times, over, Factor, expression_parts, term_parts, factor_parts, IsExpression, IsTerm, IsFactor, term_begun, expression_begun, expression_value, term_value, factor_value}
+use Rattle.etx_exprs.specs.Feeding.{ExprState, wanted_by, with_factor, level_value, level_begun, divided_progress}
+use Rattle.etx_exprs.proofs.Completeness.{at, level, progress_of, value_of_progress, begun_of_progress, none_wanted, wanted_divided, divided_of}
 
 pub data SumTree : Type 0 where
   nothing : SumTree

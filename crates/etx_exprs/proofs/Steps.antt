@@ -16,10 +16,10 @@ use Rattle.etx_exprs.specs.declared.level.Sum.TheVariants.{Before}
 use Rattle.etx_exprs.specs.declared.level.Progress.TheVariants.{Begins, Times}
 use Rattle.etx_exprs.specs.declared.level.Level.{Level}
 use Rattle.etx_exprs.specs.Values.{is_of, checked}
-use Rattle.etx_exprs.specs.Trees.{Expression, Term, lone, times, over, Factor, operand, parens, expression_parts, term_parts, factor_parts, IsExpression, IsTerm, IsFactor, expression_begun, expression_value, term_begun, term_value, factor_value}
-use Rattle.etx_exprs.specs.Feeding.{ExprState, FedBy, fresh, started, wanted_by, is_due, with_factor, level_value, level_begun, value_begun, behind_sign, behind_times, divided_progress, behind_divide, behind_factor, fed_of, gone_on, after, is_whole, on, refused, operand_fed, open_fed, operator_fed, close_fed, close_in, ended_in}
+use Rattle.etx_exprs.specs.Trees.{Expression, Term, lone, times, over, Factor, operand, parens, expression_parts, factor_parts, IsExpression, IsFactor, expression_value, factor_value}
+use Rattle.etx_exprs.specs.Feeding.{ExprState, started, wanted_by, is_due, with_factor, level_value, level_begun, value_begun, behind_sign, behind_times, divided_progress, behind_divide, behind_factor, fed_of, gone_on, after, is_whole, on, refused, operand_fed, open_fed, operator_fed, close_fed, ended_in}
 use Rattle.etx_exprs.specs.Says.{IsTree, BeginsTree}
-use Rattle.etx_exprs.proofs.Completeness.{at, level, progress_of, begun_of_progress, due_of, none_wanted, wanted_divided}
+use Rattle.etx_exprs.proofs.Completeness.{at, level, progress_of, begun_of_progress, wanted_divided}
 use Rattle.etx_exprs.proofs.Spelling.{SumTree, nothing, before, ProgressTree, begins, due, multiplied, divided, LevelTree, sign_part, sum_parts, progress_parts, level_parts, outer_parts, sum_in, progress_in, level_in, levels_in, IsSum, IsProgress, Nests, Spelled, joined, joined_parts, joined_is, joined_value, joined_begun, filled, filled_parts, filled_is, filled_value}
 
 -- lists

@@ -1,5 +1,5 @@
 -- What a part makes of an expression of which some parts were fed.
-use Rattle.std.specs.Prelude.{◌≡◌, ℕ, Bool, true, false, List, [], ◌∷◌, Option, Some, None, if◌then◌else◌}
+use Rattle.std.specs.Prelude.{Bool, true, false, List, [], ◌∷◌, Option, Some, None, if◌then◌else◌}
 use Rattle.etx_exprs.specs.declared.value.Value.{Value}
 use Rattle.etx_exprs.specs.declared.value.ValueKind.{ValueKind}
 use Rattle.etx_exprs.specs.declared.value.ValueKind.TheVariants.{Int}

@@ -1,5 +1,5 @@
 -- What is said of a part behind others, by the trees alone.
-use Rattle.std.specs.Prelude.{◌≡◌, ℕ, ◌+◌, List, [], ◌∷◌, ◌++◌, Option, Some}
+use Rattle.std.specs.Prelude.{◌≡◌, ℕ, ◌+◌, List, [], ◌∷◌, ◌++◌, Some}
 use Rattle.etx_exprs.specs.declared.value.ValueKind.{ValueKind}
 use Rattle.etx_exprs.specs.declared.part.Part.{Part}
 use Rattle.etx_exprs.specs.declared.part.Part.TheVariants.{Open, Close, Relax}

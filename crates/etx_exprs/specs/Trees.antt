@@ -1,6 +1,6 @@
 -- The expressions of e-TeX as trees, by section 3.5 of its manual: the parts that a tree is written with, the kind that it is
 -- of, and its value.
-use Rattle.std.specs.Prelude.{◌≡◌, Bool, true, List, [], ◌∷◌, ◌++◌, Option, Some, None}
+use Rattle.std.specs.Prelude.{◌≡◌, true, List, [], ◌∷◌, ◌++◌, Option}
 use Rattle.etx_exprs.specs.declared.value.Value.{Value}
 use Rattle.etx_exprs.specs.declared.value.ValueKind.{ValueKind}
 use Rattle.etx_exprs.specs.declared.value.ValueKind.TheVariants.{Int}

@@ -1,5 +1,5 @@
 -- A negative divisor.
-use Rattle.std.proofs.Common.{rules, ◌≡◌, pos, ℤ, ◌≤ℤ◌, arith}
+use Rattle.std.proofs.Common.{rules, pos, ◌≤ℤ◌, arith}
 use Rattle.std.proofs.lemmas.Grind.{common_steps}
 use Rattle.std.proofs.lemmas.Int.{ints}
 use Rattle.etx_exprs.proofs.Quotients.{divided_below}
