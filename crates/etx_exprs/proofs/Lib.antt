@@ -1,5 +1,6 @@
 mod Completeness
 mod Conversions
+mod Fitting
 mod Numbers
 mod Places
 mod Quotients

@@ -20,7 +20,7 @@ own_kind (value.Dim d) = refl
 own_kind (value.Glue g) = refl
 own_kind (value.MuGlue g) = refl
 
-kind_is : (k : ValueKind) (v : Value) → is_of k v ≡ true → k ≡ kind_of v
+pub kind_is : (k : ValueKind) (v : Value) → is_of k v ≡ true → k ≡ kind_of v
 kind_is kinds.Int (value.Int n) h = refl
 kind_is kinds.Int (value.Dim d) h = cc
 kind_is kinds.Int (value.Glue g) h = cc

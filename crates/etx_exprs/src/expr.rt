@@ -173,7 +173,8 @@ impl Expr {
     /// `More` where it goes on with an expression, `Done` for a `\relax` behind a whole expression, and `DoneBack` where it
     /// can't follow: then it isn't taken, and the expression is what it was. So inside parentheses, where e-TeX reports
     /// `Missing ) inserted for expression`, the caller finds [`Expr::depth`] above 0, feeds `Close`, and then the part again.
-    /// An operand can't follow where another kind is wanted. After an `Err` an expression is only dropped.
+    /// An operand can't follow where another kind is wanted. After an `Err` an expression is only dropped. A `Done` leaves it
+    /// as it was, too.
     pub fn feed(&mut self, part: Part) -> Result<Turn, AllocError>
         ensures turn { IfOk result (λ turn. turn ≡ (fed_of self.old part).turn) }
         ensures state { OnOk result (self.new ≡ (fed_of self.old part).state) }
@@ -189,13 +190,14 @@ impl Expr {
         self.level.value().ok_or(Overflow)
     }
 
-    /// The value of the parts that were taken, which are a whole expression.
+    /// The value of the parts that were taken, which are a whole expression. It is of the expression's kind.
     ///
     /// `Overflow` exactly where a number that was formed is out of its range, or something was divided by zero.
     pub fn value(&self) -> Result<Value, Overflow>
         requires whole { is_whole self.now ≡ true }
         ensures tree { (kind : ValueKind) (tree : Expression) → IsExpression kind tree → Took kind (expression_parts tree) self.now →
             MatchResult result (λ v. expression_value tree ≡ Some v) (λ _. expression_value tree ≡ None) }
+        ensures kind { (kind : ValueKind) (parts : List Part) → Took kind parts self.now → IfOk result (λ v. kind_of v ≡ kind) }
         ensures value { MatchResult result (λ v. level_value self.now.level ≡ Some v) (λ _. level_value self.now.level ≡ None) }
     {
         self.level_value()
