@@ -20,6 +20,12 @@ use std::alloc::{AllocError, Global};
 use std::marker::Model;
 
 /// An expression of e-TeX of which some parts were fed.
+///
+/// Terms stand with `+` or `-` between them. A term is a factor of the expression's kind, times or divided by integer factors,
+/// and a factor is an operand, or an expression in parentheses. A quotient is the nearest whole number, halves away from zero;
+/// a product directly followed by a division is one scaling, whose product has no bound. Stretches, and shrinks, of one order
+/// are added; else the right one counts where it is of the higher order and not nothing, and the left one otherwise. As in
+/// e-TeX, a right one that counts keeps its sign in a difference too. (The e-TeX manual, section 3.5.)
 #[derive(Drop)]
 pub struct Expr {
     /// What stands around the innermost parenthesis that is open.

@@ -24,14 +24,23 @@ pub enum Unit {
     Cc,
     /// A scaled point.
     Sp,
+    /// `true pt`.
     TruePt,
+    /// `true pc`.
     TruePc,
+    /// `true in`.
     TrueIn,
+    /// `true cm`.
     TrueCm,
+    /// `true mm`.
     TrueMm,
+    /// `true bp`.
     TrueBp,
+    /// `true dd`.
     TrueDd,
+    /// `true cc`.
     TrueCc,
+    /// `true sp`.
     TrueSp,
 }
 
