@@ -1,5 +1,5 @@
 -- A value has the kind of its tree.
-use Rattle.std.proofs.Common.{◌≡◌, Bool, true, false, if◌then◌else◌, ℤ, List, Option, Some, None, MatchResult, IfOk, Result, Ok, Err, refl, sym, subst, ◌∙◌}
+use Rattle.std.proofs.Common.{◌≡◌, Bool, true, false, if◌then◌else◌, ℤ, List, Option, Some, None, MatchResult, IfOk, Result, Ok, Err, refl, sym, subst}
 use Rattle.std.specs.Option.{option_map}
 use Rattle.etx_matter.specs.declared.glue.Glue.{Glue}
 use Rattle.etx_exprs.specs.declared.value.Value.{Value}

@@ -1,3 +1,4 @@
+mod Bounds
 mod Completeness
 mod Conversions
 mod Fitting

@@ -196,7 +196,8 @@ impl Expr {
         self.level.value().ok_or(Overflow)
     }
 
-    /// The value of the parts that were taken, which are a whole expression. It is of the expression's kind.
+    /// The value of the parts that were taken, which are a whole expression. It is of the expression's kind, and in
+    /// its range.
     ///
     /// `Overflow` exactly where a number that was formed is out of its range, or something was divided by zero.
     pub fn value(&self) -> Result<Value, Overflow>
@@ -204,6 +205,7 @@ impl Expr {
         ensures tree { (kind : ValueKind) (tree : Expression) → IsExpression kind tree → Took kind (expression_parts tree) self.now →
             MatchResult result (λ v. expression_value tree ≡ Some v) (λ _. expression_value tree ≡ None) }
         ensures kind { (kind : ValueKind) (parts : List Part) → Took kind parts self.now → IfOk result (λ v. kind_of v ≡ kind) }
+        ensures range { (kind : ValueKind) (parts : List Part) → Took kind parts self.now → IfOk result (λ v. checked v ≡ Some v) }
         ensures value { MatchResult result (λ v. level_value self.now.level ≡ Some v) (λ _. level_value self.now.level ≡ None) }
     {
         self.level_value()
