@@ -1,0 +1,10 @@
+mod Bounds
+mod Completeness
+mod Conversions
+mod Fitting
+mod Numbers
+mod Places
+mod Quotients
+mod Sayings
+mod Spelling
+mod Steps

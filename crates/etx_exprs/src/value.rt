@@ -1,0 +1,61 @@
+//! Values, and the kinds that they are of.
+ghost use Rattle.std.specs.Prelude.{◌≡◌};
+ghost use Rattle.etx_exprs.specs.Values.{kind_of, is_of};
+
+use etx_matter::Glue;
+
+/// The kind of an expression.
+#[derive(Clone, Copy, Debug, PartialEq, Eq)]
+pub enum ValueKind {
+    /// Of `\numexpr`.
+    Int,
+    /// Of `\dimexpr`.
+    Dim,
+    /// Of `\glueexpr`.
+    Glue,
+    /// Of `\muexpr`.
+    MuGlue,
+}
+
+/// A value of one of the four kinds.
+#[derive(Clone, Copy, Debug, PartialEq, Eq)]
+pub enum Value {
+    /// An integer. An expression takes those from -(2^31-1) to 2^31-1.
+    Int(i32),
+    /// A dimension in sp. An expression takes those from -(2^30-1) to 2^30-1.
+    Dim(i32),
+    /// Glue. An expression takes it where its width, stretch and shrink are from -(2^30-1) to 2^30-1 each.
+    Glue(Glue),
+    /// Glue in mu, with the same ranges.
+    MuGlue(Glue),
+}
+
+/// A number that was formed in an expression is out of its range, or something was divided by zero. e-TeX then reports
+/// `Arithmetic overflow`, and takes 0.
+#[derive(Clone, Copy, Debug, PartialEq, Eq)]
+pub struct Overflow;
+
+impl Value {
+    /// The kind of the value.
+    pub fn kind(self) -> ValueKind
+        ensures { result ≡ kind_of self }
+    {
+        match self {
+            Value::Int(_) => ValueKind::Int,
+            Value::Dim(_) => ValueKind::Dim,
+            Value::Glue(_) => ValueKind::Glue,
+            Value::MuGlue(_) => ValueKind::MuGlue,
+        }
+    }
+
+    pub(crate) fn is_of(self, kind: ValueKind) -> bool
+        ensures { result ≡ is_of kind self }
+    {
+        match self {
+            Value::Int(_) => matches!(kind, ValueKind::Int),
+            Value::Dim(_) => matches!(kind, ValueKind::Dim),
+            Value::Glue(_) => matches!(kind, ValueKind::Glue),
+            Value::MuGlue(_) => matches!(kind, ValueKind::MuGlue),
+        }
+    }
+}
