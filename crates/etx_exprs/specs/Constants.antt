@@ -37,6 +37,10 @@ abbrev pub number_of : ℕ → List ℕ → ℕ
 number_of base [] = 0
 number_of base (d ∷ ds) = d * base ^ length ds + number_of base ds
 
+abbrev pub is_no_digit : List ℕ → Bool
+is_no_digit [] = true
+is_no_digit (d ∷ ds) = false
+
 -- the greatest number is 2^31-1
 abbrev pub within : ℕ → Option ℕ
 within n = if nat_le n 2_147_483_647 then Some n else None
@@ -56,6 +60,10 @@ turn_at None false = DoneBack
 abbrev pub digit_turn : DigitsState → Token → Turn
 digit_turn s t = turn_at (digit_of s.base t) (not s.empty && is_space t)
 
+-- what is said of a token behind these digits
+abbrev pub said_behind : ℕ → List ℕ → Token → Turn
+said_behind base digits t = turn_at (digit_of base t) (not (is_no_digit digits) && is_space t)
+
 -- with a digit more
 abbrev pub number_with : Option ℕ → ℕ → ℕ → Option ℕ
 number_with None base digit = None
@@ -67,10 +75,6 @@ with_digit s (Some digit) = record { base = s.base; number = number_with s.numbe
 
 abbrev pub digits_fed : DigitsState → Token → DigitsState
 digits_fed s t = with_digit s (digit_of s.base t)
-
-abbrev pub is_no_digit : List ℕ → Bool
-is_no_digit [] = true
-is_no_digit (d ∷ ds) = false
 
 -- these are the digits that were fed
 pub record StandsFor (s : DigitsState) (digits : List ℕ) : Type 0 where

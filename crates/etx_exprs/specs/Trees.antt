@@ -59,7 +59,8 @@ abbrev mutual
   IsFactor kind (operand v) = is_of kind v ≡ true
   IsFactor kind (parens e) = IsExpression kind e
 
--- A factor that begins a term is normal once an operator stands behind it: a stretch or shrink of nothing is then finite.
+-- A factor that begins a term is normal once an operator stands behind it: a stretch or shrink of nothing is then finite. (The
+-- manual doesn't say so, and real e-TeX does it.)
 abbrev pub term_begun : Term → Option Value → Option Value
 term_begun (lone f) v = normalized v
 term_begun (times t f) v = v

@@ -11,7 +11,7 @@ parts_of m = m.whole * 65536 + m.fraction
 abbrev pub number_in : ℕ → Number
 number_in n = record { whole = n / 65536; fraction = n % 65536 }
 
--- a `true` unit is one on a page that is not magnified; at 1000 nothing is changed
+-- A `true` unit is one on a page that is not magnified: what is less than a 65536th of it is cut off. At 1000 nothing is changed.
 abbrev pub unmagnified : ℕ → Number → Number
 unmagnified mag m = if mag == 1000 then m else number_in (parts_of m * 1000 / mag)
 

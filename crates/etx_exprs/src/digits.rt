@@ -1,7 +1,7 @@
 //! The digits of an integer constant.
 ghost use Rattle.std.specs.Prelude.{◌≡◌, ◌<◌, ◌≤◌, ◌++◌, ◌*◌, ◌+◌, ◌-◌, ◌==◌, ℕ, List, [], pos, false, Bool, nat_le, nat_lt, Some, None, IfSome, MatchResult, true};
 ghost use Rattle.std.specs.Option.{option_map, option_to_list};
-ghost use Rattle.etx_exprs.specs.Constants.{IsBase, StandsFor, digit_of, digit_at, is_decimal, is_hexadecimal, is_space, turn_at, digit_turn, digits_fed, number_of, number_with, with_digit, within};
+ghost use Rattle.etx_exprs.specs.Constants.{IsBase, StandsFor, digit_of, digit_at, is_decimal, is_hexadecimal, is_space, turn_at, digit_turn, digits_fed, said_behind, number_of, number_with, with_digit, within};
 
 use crate::part::Turn;
 use etx_matter::Token;
@@ -125,11 +125,13 @@ impl Digits {
     /// Takes the next token, if it belongs to the constant.
     ///
     /// `More` for a digit: the characters `0` to `9` of category 12 below the base, and in base 16 also `A` to `F` of
-    /// category 11 or 12. `Done` for a character of category 10 behind a digit, and `DoneBack` for all else. A control sequence that stands
-    /// for a space is for the caller to know. ("TeX: The Program", sections 444 and 445.)
+    /// category 11 or 12. `Done` for a character of category 10 behind a digit, which is used up, and `DoneBack` for all else.
+    /// The constant ends with the first answer that isn't `More`; that isn't remembered. A control sequence that means a space
+    /// is for the caller to know. ("TeX: The Program", sections 444 and 445.)
     pub fn feed(&mut self, t: Token) -> Turn
         ensures turn { result ≡ digit_turn self.old t }
         ensures state { self.new ≡ digits_fed self.old t }
+        ensures says { (digits : List ℕ) → StandsFor self.old digits → result ≡ said_behind self.old.base digits t }
         ensures stands { (digits : List ℕ) → StandsFor self.old digits → StandsFor self.new (digits ++ option_to_list (digit_of self.old.base t)) }
     {
         match digit_of(self.base, t) {

@@ -1,5 +1,5 @@
 //! An expression, part by part.
-ghost use Rattle.std.specs.Prelude.{◌≡◌, ◌↔◌, ◌+◌, ◌++◌, ◌∷◌, [], List, length, true, false, IfOk, OnOk, MatchResult, Some, None};
+ghost use Rattle.std.specs.Prelude.{◌≡◌, ◌↔◌, ◌+◌, ◌++◌, ◌∷◌, [], List, length, true, false, IfOk, OnOk, OnErr, MatchResult, Some, None};
 ghost use Rattle.etx_exprs.specs.declared.part.Part.{Part};
 ghost use Rattle.etx_exprs.specs.declared.value.ValueKind.{ValueKind};
 ghost use Rattle.etx_exprs.specs.declared.value.Value.{Value};
@@ -25,7 +25,9 @@ use std::marker::Model;
 /// and a factor is an operand, or an expression in parentheses. A quotient is the nearest whole number, halves away from zero;
 /// a product directly followed by a division is one scaling, whose product has no bound. Stretches, and shrinks, of one order
 /// are added; else the right one counts where it is of the higher order and not nothing, and the left one otherwise. As in
-/// e-TeX, a right one that counts keeps its sign in a difference too. (The e-TeX manual, section 3.5.)
+/// e-TeX, a right one that counts keeps its sign in a difference too. A stretch or shrink of nothing becomes finite in a sum,
+/// and where an operator stands behind a term's first factor, but not by a product or a quotient. (The e-TeX manual, section
+/// 3.5; "TeX: The Program", section 1239; of signs and orders both say little, and e-TeX's program does it so.)
 #[derive(Drop)]
 pub struct Expr {
     /// What stands around the innermost parenthesis that is open.
@@ -119,6 +121,7 @@ impl Expr {
     fn feed_open(&mut self) -> Result<Turn, AllocError>
         ensures turn { IfOk result (λ turn. turn ≡ (open_fed (wanted_of self.old) self.old).turn) }
         ensures state { OnOk result (self.new ≡ (open_fed (wanted_of self.old) self.old).state) }
+        ensures err { OnErr result (self.new ≡ self.old) }
     {
         match self.level.wanted() {
             None => Ok(Turn::DoneBack),
@@ -160,6 +163,7 @@ impl Expr {
     fn take(&mut self, part: Part) -> Result<Turn, AllocError>
         ensures turn { IfOk result (λ turn. turn ≡ (fed_of self.old part).turn) }
         ensures state { OnOk result (self.new ≡ (fed_of self.old part).state) }
+        ensures err { OnErr result (self.new ≡ self.old) }
     {
         match part {
             Part::Operand(value) => Ok(self.feed_operand(value)),
@@ -177,15 +181,20 @@ impl Expr {
     /// Takes the next part, if it can follow.
     ///
     /// `More` where it goes on with an expression, `Done` for a `\relax` behind a whole expression, and `DoneBack` where it
-    /// can't follow: then it isn't taken, and the expression is what it was. So inside parentheses, where e-TeX reports
-    /// `Missing ) inserted for expression`, the caller finds [`Expr::depth`] above 0, feeds `Close`, and then the part again.
-    /// An operand can't follow where another kind is wanted. After an `Err` an expression is only dropped. A `Done` leaves it
-    /// as it was, too.
+    /// can't follow: then it isn't taken, and the expression is what it was, as behind `Done`. An operand can't follow where another
+    /// kind is wanted; one that is out of its range is taken, and makes the value an [`Overflow`].
+    ///
+    /// Behind `DoneBack` the caller looks where the expression stands. Where [`Expr::wanted`] is some kind, an operand is missing: it
+    /// scans one, with TeX's errors about numbers. Where it is `None` and [`Expr::depth`] is above 0, e-TeX reports `Missing )
+    /// inserted for expression`: the caller feeds `Close`, and then the part again. Else the expression is whole.
+    ///
+    /// Only `Open` takes memory. After an `Err` the expression is what it was.
     pub fn feed(&mut self, part: Part) -> Result<Turn, AllocError>
         ensures turn { IfOk result (λ turn. turn ≡ (fed_of self.old part).turn) }
         ensures state { OnOk result (self.new ≡ (fed_of self.old part).state) }
         ensures says { IfOk result (λ turn. (kind : ValueKind) (parts : List Part) → Took kind parts self.old → Says turn kind parts part) }
         ensures comes { IfOk result (λ turn. Comes turn self.old part self.new) }
+        ensures err { OnErr result (self.new ≡ self.old) }
     {
         self.take(part)
     }
@@ -199,7 +208,7 @@ impl Expr {
     /// The value of the parts that were taken, which are a whole expression. It is of the expression's kind, and in
     /// its range.
     ///
-    /// `Overflow` exactly where a number that was formed is out of its range, or something was divided by zero.
+    /// `Overflow` exactly where an operand or a number that was formed is out of its range, or a divisor is zero.
     pub fn value(&self) -> Result<Value, Overflow>
         requires whole { is_whole self.now ≡ true }
         ensures tree { (kind : ValueKind) (tree : Expression) → IsExpression kind tree → Took kind (expression_parts tree) self.now →

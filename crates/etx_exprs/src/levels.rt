@@ -1,5 +1,5 @@
 //! A stack of levels.
-ghost use Rattle.std.specs.Prelude.{◌≡◌, [], ◌∷◌, length, MatchOption, OnOk};
+ghost use Rattle.std.specs.Prelude.{◌≡◌, [], ◌∷◌, length, MatchOption, OnOk, OnErr};
 
 use crate::level::Level;
 use std::alloc::{AllocError, Global};
@@ -36,7 +36,8 @@ impl Levels {
     }
 
     pub fn push(&mut self, level: Level) -> Result<(), AllocError>
-        ensures { OnOk result (self.new ≡ level ∷ self.old) }
+        ensures ok { OnOk result (self.new ≡ level ∷ self.old) }
+        ensures err { OnErr result (self.new ≡ self.old) }
     {
         self.items.push(level)?;
         Ok(())

@@ -1,8 +1,9 @@
 //! The values of numbers: the digits of an integer constant, a dimension in its unit, and the expressions of e-TeX.
 //!
 //! An [`Expr`] is fed the parts of an expression, one after another, and says whether it goes on; [`Digits`] does the same
-//! with the tokens of a constant. Each refusal comes exactly where a number that is formed is out of its range. The rules
-//! are those of "TeX: The Program", sections 444 to 458, and of section 3.5 of the e-TeX manual.
+//! with the tokens of a constant. Each refusal comes exactly where an operand or a number that is formed is out of its
+//! range, or a divisor is zero. The rules are those of "TeX: The Program", sections 444 to 458 and 1239, and of section 3.5
+//! of the e-TeX manual; where both are silent, they are what e-TeX's program is seen to do.
 #![tactic(auto)]
 
 mod digits;

@@ -1,12 +1,12 @@
 //! The parts of an expression, and what is said of each.
 use crate::value::Value;
 
-/// A part of an expression. An operand's signs belong to the operand.
-#[derive(Clone, Copy, Debug)]
+/// A part of an expression. Operators and parentheses are characters of category 12. An operand's signs belong to the operand.
+#[derive(Clone, Copy, Debug, PartialEq, Eq)]
 pub enum Part {
     /// An integer, a dimension or glue, of the kind that is wanted at its place.
     Operand(Value),
-    /// `+`.
+    /// `+` where an operator is due.
     Plus,
     /// `-` where an operator is due.
     Minus,
@@ -18,7 +18,7 @@ pub enum Part {
     Open,
     /// `)`.
     Close,
-    /// `\relax`.
+    /// A token that means `\relax`.
     Relax,
     /// A token that is none of these.
     Other,

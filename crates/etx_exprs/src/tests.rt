@@ -1,7 +1,7 @@
-// Values that real e-TeX gave, and each public function once.
+// Values that real e-TeX gave, and what is said of parts and tokens.
 ghost use Rattle.etx_exprs.specs.Constants.{IsBase};
 
-use crate::{Digits, Expr, Part, TooBig, Turn, Unit, Value, ValueKind, convert};
+use crate::{Digits, Expr, Overflow, Part, TooBig, Turn, Unit, Value, ValueKind, convert};
 use etx_matter::{Glue, GlueOrder, NameId, Token};
 use std::alloc::{AllocError, Global};
 use std::test::Fail;
@@ -214,6 +214,12 @@ const SIZES: &[(Unit, i32, i32, i32, Option<i32>)] = &[
     (Unit::TrueCm, 10, 6554, 2000, Some(9416638)),
     (Unit::TrueCc, 3, 21843, 2000, Some(1402460)),
     (Unit::TruePt, 32767, 65535, 2000, Some(1073741823)),
+    (Unit::TrueIn, 10, 6554, 2986, Some(16020235)),
+    (Unit::TruePc, 3, 21845, 720, Some(3640872)),
+    (Unit::TrueBp, 3, 21845, 720, Some(304543)),
+    (Unit::TrueDd, 3, 21845, 720, Some(324647)),
+    (Unit::TrueMm, 3, 21845, 720, Some(863273)),
+    (Unit::TrueMm, 3, 21845, 32768, Some(18966)),
 ];
 
 fn sign_of(byte: u8) -> Part {
@@ -235,11 +241,29 @@ fn operand(kind: Option<ValueKind>, number: i32) -> Part {
     }
 }
 
-fn value_of(expr: &Expr) -> Option<Value> {
+// What an expression came to: `None` where it isn't whole.
+type Answer = Option<Result<Value, Overflow>>;
+
+fn value_of(expr: &Expr) -> Answer {
     if expr.is_whole() {
-        expr.value().ok()
+        Some(expr.value())
     } else {
         None
+    }
+}
+
+fn goes_on(expr: &mut Expr, part: Part) -> Result<bool, AllocError> {
+    let turn = expr.feed(part)?;
+    Ok(turn == Turn::More)
+}
+
+// The value, where each part went on and a `\relax` ends the expression.
+fn ended(expr: &mut Expr, all_went_on: bool) -> Result<Answer, AllocError> {
+    let turn = expr.feed(Part::Relax)?;
+    if all_went_on && turn == Turn::Done {
+        Ok(value_of(expr))
+    } else {
+        Ok(None)
     }
 }
 
@@ -248,9 +272,10 @@ fn number_of(
     kind: ValueKind,
     text: &[u8],
     numbers: &[i32],
-) -> Result<Option<Value>, AllocError> {
+) -> Result<Answer, AllocError> {
     let mut expr = Expr::new(alloc, kind);
     let mut next = 0usize;
+    let mut all_went_on = true;
     for byte in text {
         let part = match numbers.get(next) {
             Some(number) if *byte == b'x' => {
@@ -259,10 +284,10 @@ fn number_of(
             }
             _ => sign_of(*byte),
         };
-        let _turn = expr.feed(part)?;
+        let went_on = goes_on(&mut expr, part)?;
+        all_went_on = all_went_on & went_on;
     }
-    let _turn = expr.feed(Part::Relax)?;
-    Ok(value_of(&expr))
+    ended(&mut expr, all_went_on)
 }
 
 fn order_of(order: u8) -> GlueOrder {
@@ -284,19 +309,38 @@ fn glue_of(sizes: Sizes) -> Glue {
     }
 }
 
+fn glue_kind(is_mu: bool) -> ValueKind {
+    if is_mu {
+        ValueKind::MuGlue
+    } else {
+        ValueKind::Glue
+    }
+}
+
+fn glue_in(is_mu: bool, sizes: Sizes) -> Value {
+    if is_mu {
+        Value::MuGlue(glue_of(sizes))
+    } else {
+        Value::Glue(glue_of(sizes))
+    }
+}
+
+// The value of an expression of glue or, where `is_mu` is true, of glue in mu.
 fn glue_value(
     alloc: Global,
+    is_mu: bool,
     text: &[u8],
     glues: &[Sizes],
     numbers: &[i32],
-) -> Result<Option<Value>, AllocError> {
-    let mut expr = Expr::new(alloc, ValueKind::Glue);
+) -> Result<Answer, AllocError> {
+    let mut expr = Expr::new(alloc, glue_kind(is_mu));
     let mut glues = glues.iter();
     let mut numbers = numbers.iter();
+    let mut all_went_on = true;
     for byte in text {
         let part = match *byte {
             b'g' => match glues.next() {
-                Some(sizes) => Part::Operand(Value::Glue(glue_of(*sizes))),
+                Some(sizes) => Part::Operand(glue_in(is_mu, *sizes)),
                 None => Part::Other,
             },
             b'i' => match numbers.next() {
@@ -305,25 +349,30 @@ fn glue_value(
             },
             other => sign_of(other),
         };
-        let _turn = expr.feed(part)?;
+        let went_on = goes_on(&mut expr, part)?;
+        all_went_on = all_went_on & went_on;
     }
-    Ok(value_of(&expr))
+    ended(&mut expr, all_went_on)
 }
 
-fn is_number(value: Option<Value>, number: Option<i32>) -> bool {
-    match value {
-        Some(Value::Int(n)) => number == Some(n),
-        Some(Value::Dim(n)) => number == Some(n),
-        Some(Value::Glue(_)) => false,
-        Some(Value::MuGlue(_)) => false,
-        None => number == None,
+fn is_number(answer: Answer, number: Option<i32>) -> bool {
+    match answer {
+        Some(Ok(Value::Int(n))) => number == Some(n),
+        Some(Ok(Value::Dim(n))) => number == Some(n),
+        Some(Ok(_)) => false,
+        Some(Err(_)) => number == None,
+        None => false,
     }
 }
 
-fn is_glue(value: Option<Value>, sizes: Option<Sizes>) -> bool {
-    match sizes {
-        Some(sizes) => value == Some(Value::Glue(glue_of(sizes))),
-        None => value == None,
+fn is_glue(answer: Answer, is_mu: bool, sizes: Option<Sizes>) -> bool {
+    match answer {
+        Some(Ok(value)) => match sizes {
+            Some(sizes) => value == glue_in(is_mu, sizes) && value.kind() == glue_kind(is_mu),
+            None => false,
+        },
+        Some(Err(_)) => sizes == None,
+        None => false,
     }
 }
 
@@ -357,8 +406,17 @@ fn dimensions(rt: HostRuntime) -> Result<(), Fail> {
 #[test]
 fn glues(rt: HostRuntime) -> Result<(), Fail> {
     for (row, (text, glues, numbers, sizes)) in GLUE.iter().enumerate() {
-        let value = glue_value(rt.alloc(), text, glues, numbers)?;
-        assert!(rt; is_glue(value, *sizes), "row {row}");
+        let value = glue_value(rt.alloc(), false, text, glues, numbers)?;
+        assert!(rt; is_glue(value, false, *sizes), "row {row}");
+    }
+    Ok(())
+}
+
+#[test]
+fn glues_in_mu(rt: HostRuntime) -> Result<(), Fail> {
+    for (row, (text, glues, numbers, sizes)) in GLUE.iter().enumerate() {
+        let value = glue_value(rt.alloc(), true, text, glues, numbers)?;
+        assert!(rt; is_glue(value, true, *sizes), "row {row}");
     }
     Ok(())
 }
@@ -384,7 +442,7 @@ fn a_part_that_cannot_follow_is_not_taken(rt: HostRuntime) -> Result<(), Fail> {
     assert!(rt; expr.feed(Part::Close)? == Turn::More);
     assert!(rt; expr.feed(Part::Close)? == Turn::DoneBack);
     assert!(rt; expr.feed(Part::Relax)? == Turn::Done);
-    assert!(rt; value_of(&expr) == Some(Value::Int(7)));
+    assert!(rt; is_number(value_of(&expr), Some(7)));
     Ok(())
 }
 
@@ -454,9 +512,9 @@ fn what_ends_a_constant(rt: HostRuntime) {
     assert!(rt; digits.value() == Ok(15));
 }
 
-fn stretch_order(value: Option<Value>) -> u8 {
-    match value {
-        Some(Value::Glue(glue)) => match glue.stretch_order {
+fn stretch_order(answer: Answer) -> u8 {
+    match answer {
+        Some(Ok(Value::Glue(glue))) => match glue.stretch_order {
             GlueOrder::Normal => 0,
             _ => 1,
         },
@@ -470,11 +528,13 @@ fn orders_of_nothing(rt: HostRuntime) -> Result<(), Fail> {
     let one_fil = (65536, 65536, 1, 0, 0);
     let no_fil = (65536, 0, 1, 0, 0);
     let nothing = (0, 0, 0, 0, 0);
-    assert!(rt; stretch_order(glue_value(rt.alloc(), b"g*i", &[one_fil], &[0])?) == 1);
-    assert!(rt; stretch_order(glue_value(rt.alloc(), b"g", &[no_fil], &[])?) == 1);
-    assert!(rt; stretch_order(glue_value(rt.alloc(), b"(g)", &[no_fil], &[])?) == 1);
-    assert!(rt; stretch_order(glue_value(rt.alloc(), b"g*i", &[no_fil], &[1])?) == 0);
-    assert!(rt; stretch_order(glue_value(rt.alloc(), b"g+g", &[nothing, no_fil], &[])?) == 0);
-    assert!(rt; stretch_order(glue_value(rt.alloc(), b"g/i", &[no_fil], &[1])?) == 0);
+    assert!(rt; stretch_order(glue_value(rt.alloc(), false, b"g*i", &[one_fil], &[0])?) == 1);
+    assert!(rt; stretch_order(glue_value(rt.alloc(), false, b"g", &[no_fil], &[])?) == 1);
+    assert!(rt; stretch_order(glue_value(rt.alloc(), false, b"(g)", &[no_fil], &[])?) == 1);
+    assert!(rt; stretch_order(glue_value(rt.alloc(), false, b"g*i", &[no_fil], &[1])?) == 0);
+    assert!(rt;
+        stretch_order(glue_value(rt.alloc(), false, b"g+g", &[nothing, no_fil], &[])?) == 0
+    );
+    assert!(rt; stretch_order(glue_value(rt.alloc(), false, b"g/i", &[no_fil], &[1])?) == 0);
     Ok(())
 }

@@ -176,7 +176,9 @@ fn size(unit: Unit, whole: u32, fraction: u32, mag: u32) -> u128
 /// counts for `true` units alone.
 ///
 /// `whole` is at least 0, `frac` from 0 to 65536, as a decimal fraction is rounded, and `mag` from 1 to 32768. What is less
-/// than 1 sp is cut off, and a number of sp loses its fraction. `TooLarge` exactly where the size is 2^30 sp or more.
+/// than 1 sp is cut off, and a number of sp loses its fraction. For a `true` unit, where `mag` isn't 1000, the number is
+/// divided by the magnification first, and what is less than a 65536th of the unit is cut off then already; the fraction of
+/// a number of `true sp` counts there, before it is lost. `TooLarge` exactly where the size is 2^30 sp or more.
 /// ("TeX: The Program", sections 453 to 458.)
 pub fn convert(unit: Unit, whole: i32, frac: i32, mag: i32) -> Result<i32, TooLarge>
     requires whole { pos 0 ≤ℤ whole }

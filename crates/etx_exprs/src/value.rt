@@ -20,17 +20,17 @@ pub enum ValueKind {
 /// A value of one of the four kinds.
 #[derive(Clone, Copy, Debug, PartialEq, Eq)]
 pub enum Value {
-    /// An integer. An expression takes those from -(2^31-1) to 2^31-1.
+    /// An integer. Its range is from -(2^31-1) to 2^31-1; an expression with an operand outside it is an [`Overflow`].
     Int(i32),
-    /// A dimension in sp. An expression takes those from -(2^30-1) to 2^30-1.
+    /// A dimension in sp. Its range is from -(2^30-1) to 2^30-1, likewise.
     Dim(i32),
-    /// Glue. An expression takes it where its width, stretch and shrink are from -(2^30-1) to 2^30-1 each.
+    /// Glue. The range of its width, its stretch and its shrink is from -(2^30-1) to 2^30-1 each, likewise.
     Glue(Glue),
     /// Glue in mu, with the same ranges.
     MuGlue(Glue),
 }
 
-/// A number that was formed in an expression is out of its range, or something was divided by zero. e-TeX then reports
+/// An operand or a number that was formed in an expression is out of its range, or a divisor is zero. e-TeX then reports
 /// `Arithmetic overflow`, and takes 0.
 #[derive(Clone, Copy, Debug, PartialEq, Eq)]
 pub struct Overflow;
