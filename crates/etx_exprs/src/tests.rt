@@ -208,6 +208,10 @@ const SIZES: &[(Unit, i32, i32, i32, Option<i32>)] = &[
     (Unit::TrueSp, 1, 65536, 1000, Some(1)),
     (Unit::Sp, 1073741823, 0, 1000, Some(1073741823)),
     (Unit::Sp, 1073741824, 0, 1000, None),
+];
+
+// The same on a page that is magnified.
+const MAGNIFIED: &[(Unit, i32, i32, i32, Option<i32>)] = &[
     (Unit::In, 1, 24248, 2000, Some(6488689)),
     (Unit::TrueSp, 3, 32768, 2000, Some(1)),
     (Unit::TrueIn, 1, 24248, 2000, Some(3244344)),
@@ -424,6 +428,14 @@ fn glues_in_mu(rt: HostRuntime) -> Result<(), Fail> {
 #[test]
 fn sizes_in_units(rt: HostRuntime) {
     for (row, (unit, whole, fraction, mag, size)) in SIZES.iter().enumerate() {
+        let is_same = convert(*unit, *whole, *fraction, *mag).ok() == *size;
+        assert!(rt; is_same, "row {row}");
+    }
+}
+
+#[test]
+fn sizes_on_a_magnified_page(rt: HostRuntime) {
+    for (row, (unit, whole, fraction, mag, size)) in MAGNIFIED.iter().enumerate() {
         let is_same = convert(*unit, *whole, *fraction, *mag).ok() == *size;
         assert!(rt; is_same, "row {row}");
     }
