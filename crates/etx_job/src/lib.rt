@@ -4,8 +4,6 @@
 //! plain meaning of its words, which `specs/Chain.antt` and `specs/Meaning.antt` define.
 #![tactic(auto)]
 
-#[cfg(test)]
-mod call_tests;
 mod commands;
 mod driver;
 mod fault;
