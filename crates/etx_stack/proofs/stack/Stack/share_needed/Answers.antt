@@ -1,0 +1,29 @@
+use Rattle.std.proofs.Common.{◌≡◌, ℕ, ◌+◌, ◌-◌, ◌≤◌, ◌<◌, List, [], ◌∷◌, ◌++◌, length, take, drop, map, refl, sym, ◌∙◌, ap, subst, arith}
+use Rattle.std.proofs.lemmas.List.{length-map}
+use Rattle.etx_stack.specs.declared.stack.Taken.{Taken}
+use Rattle.etx_stack.specs.Undoing.{Stacked, IsGuarded, AreBelow}
+use Rattle.etx_stack.proofs.Histories.{Keeps-needed, guarded-needed, below-needed, put_back-other, map-pushed}
+use Rattle.etx_stack.proofs.stack.Stack.share_needed.Goals as goal
+
+pub invariant_of-self-in-Ok : goal.invariant_of-self-in-Ok
+invariant_of-self-in-Ok g c =
+    let f : Taken g.row.T.Denot → ℕ × g.row.T.Denot = λ e. (e.at, e.item) in
+    let old : length c.self.inside.items.items ≤ c.self.inside.guard = subst (λ (s : Stacked g.row.T.Denot). length s.items ≤ s.guard) (sym c.self.view_is) c.requires in
+    let n : c.len-at.result ≡ length c.pop.new.self.items = c.len-at.ensures ∙ c.pop.new.self.ok.0 in
+    let one : c.len-at.result + 1 ≡ length c.self.inside.items.items = omega (arith, c.in-Some.ensures.len, c.len-at.ensures, c.self.inside.items.ok.0) in
+    let pushed = map-pushed f _ _ _ (c.push_reserved-in-Ok.ensures.items ∙ ap (λ (l : List (Taken g.row.T.Denot)). l ++ record { at = c.len-at.result; item = c.in-Ok.same } ∷ []) c.in_ok-reserve.ensures.items) in (
+      omega (arith, c.push_reserved.ensures.len, c.push_reserved.new.self.ok.0, c.len-at.ensures),
+      guarded-needed _ _ _ c.self.inside.guard pushed (omega (arith, c.self.invariant.0)) c.self.invariant.1,
+      below-needed _ _ _ c.self.inside.items.cap _ pushed (omega (arith, c.in-Some.ensures.capacity, c.push_reserved.ensures.capacity)) (omega (arith, c.push_reserved.ensures.capacity, c.in-Some.ensures.capacity, c.self.inside.items.ok.0, c.self.inside.items.ok.1)) c.self.invariant.2,
+    )
+
+pub returns-in-Ok-clause-kept : goal.returns-in-Ok-clause-kept
+returns-in-Ok-clause-kept g c =
+    let f : Taken g.row.T.Denot → ℕ × g.row.T.Denot = λ e. (e.at, e.item) in
+    let old : length c.self.inside.items.items ≤ c.self.inside.guard = subst (λ (s : Stacked g.row.T.Denot). length s.items ≤ s.guard) (sym c.self.view_is) c.requires in
+    let n : c.len-at.result ≡ length c.pop.new.self.items = c.len-at.ensures ∙ c.pop.new.self.ok.0 in
+    let one : c.len-at.result + 1 ≡ length c.self.inside.items.items = omega (arith, c.in-Some.ensures.len, c.len-at.ensures, c.self.inside.items.ok.0) in
+    let pushed = map-pushed f _ _ _ (c.push_reserved-in-Ok.ensures.items ∙ ap (λ (l : List (Taken g.row.T.Denot)). l ++ record { at = c.len-at.result; item = c.in-Ok.same } ∷ []) c.in_ok-reserve.ensures.items) in
+    let was = c.in-Some.ensures.items ∙ ap (λ (x : g.row.T.Denot). c.pop.new.self.items ++ x ∷ []) (sym c.in-Ok.ensures) in
+    rw (← c.self.view_is) (Keeps-needed _ _ _ pushed (omega (arith, c.self.invariant.0))
+    (put_back-other _ _ _ _ c.in-Ok.same c.in-Some.item was c.push_reserved.ensures.items (sym n)))
