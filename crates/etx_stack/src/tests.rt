@@ -40,7 +40,9 @@ fn goes_back_to_the_list_at_the_mark(rt: HostRuntime) -> Result<(), Fail> {
 #[test]
 fn the_last_item_is_changed_in_place(rt: HostRuntime) -> Result<(), Fail> {
     let mut stack: Stack<Number> = Stack::new(rt.alloc());
-    assert!(rt; !stack.free_last()? && pushes(&mut stack, 1) && stack.is_free());
+    assert!(rt; !stack.free_last()?);
+    stack.push(Number { value: 1 })?;
+    assert!(rt; stack.is_free());
     let mark = stack.mark();
     assert!(rt; !stack.is_free());
     if stack.free_last()? {
