@@ -31,16 +31,22 @@ def copy_crates(folder, needs):
     return [f"{name}: {' '.join(lines[name])}\n" for name in wanted]
 
 
-def build_program(folder, name, source, needs):
+def build_program(folder, name, source, needs, proofs=None):
     """The path of a program with this main file, proved and built by `rt` in the folder.
 
-    `needs` are the libraries that it uses, of the repository or of the kit. It stops where the program can't be built.
+    `needs` are the libraries that it uses, of the repository or of the kit; `proofs` are the texts of its files under
+    proofs/, by their paths there. It stops where the program can't be built.
     """
     crate = os.path.join(folder, "crates", name)
     lines = copy_crates(folder, needs)
     os.makedirs(os.path.join(crate, "src"))
     with open(os.path.join(crate, "src", "main.rt"), "w", encoding="utf-8") as file:
         file.write(source)
+    for path, text in (proofs or {}).items():
+        path = os.path.join(crate, "proofs", path)
+        os.makedirs(os.path.dirname(path), exist_ok=True)
+        with open(path, "w", encoding="utf-8") as file:
+            file.write(text)
     with open(os.path.join(folder, "crates.txt"), "w", encoding="utf-8") as file:
         file.writelines(lines + [f"{name}: {' '.join(needs)}\n"])
     ran = subprocess.run(["rt", "run"], cwd=crate, stdin=subprocess.DEVNULL, stdout=subprocess.PIPE, stderr=subprocess.STDOUT, text=True)

@@ -41,9 +41,11 @@ fn push_node(text: &mut String, node: &Node) -> anyhow::Result<()> {
     match node {
         Node::Char { code, .. } => text.push_str(&format!(in alloc; " c{code}")?)?,
         Node::Kern { width, .. } => text.push_str(&format!(in alloc; " k{width}")?)?,
-        Node::Lig { code, letters, left, right, .. } => {
+        Node::Lig { code, parts, .. } => {
+            let parts = parts.get();
+            let (left, right) = (parts.left, parts.right);
             text.push_str(&format!(in alloc; " l{code},{left},{right}")?)?;
-            for letter in letters.as_slice() {
+            for letter in parts.letters.as_slice() {
                 text.push_str(&format!(in alloc; ",{letter}")?)?;
             }
         }

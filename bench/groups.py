@@ -1,16 +1,26 @@
 #!/usr/bin/env python3
-"""Times assignments in and out of groups, and measures the memory that a value takes.
+"""Counts what assignments in and out of groups cost, and measures the memory that a value takes.
 
     bench/groups.py
 
 It builds a small program over a copy of crates/etx_groups and the crates below it in a folder of its own, with `rt`, and
-runs it: inside 0, 10, 1000 and 9999 groups with a local value in each, 100000 local assignments, 100000 global ones, and
-100000 groups with an assignment in each are made; then the open groups are ended. What the values were is forgotten after
-each step, as the machine does after each turn. It asks that no step inside 9999 groups takes more than 3 times as long as
-outside of all, and that a value takes at most 1000 bytes. It is no part of the gate. Exit status 1 where something is not
-as asked.
+runs it.
+
+- Instructions of a look at a meaning, of an assignment, of the first one in a group with the end of the group, of an
+  empty group, and of ten assignments in a group that a mark follows, with 10 and with 5000 names, by valgrind, where
+  that is installed: the number of names may not change them.
+- Time: inside 0, 10, 1000 and 9999 groups with a local value in each, 100000 local assignments, 100000 global ones, and
+  100000 groups with an assignment in each are made; then the open groups are ended. No step inside 9999 groups may take
+  more than 3 times as long as outside of all.
+- Memory: a value in the table takes at most 40 bytes, and at most 120 with what it took the place of. (The table grows by
+  doubling; the number of values is a power of two.)
+
+What the values were is forgotten after each step, as the machine does after each turn. It is no part of the gate. Exit
+status 1 where something is not as asked.
 """
 import os
+import re
+import shutil
 import subprocess
 import sys
 import tempfile
@@ -21,16 +31,15 @@ DEPTHS = (0, 10, 1000, 9999)
 STEPS = ("local", "global", "in-and-out", "close")
 TIMES = 100000
 VALUES = 1 << 19
-MOST_BYTES = 1000
+MOST_BYTES = {"global": 40, "local": 120, "global, what was is kept": 120}
+COUNTED = ("nothing", "get", "local", "global", "group", "in-and-out", "marked")
 PROGRAM = r"""//! Times assignments in and out of groups. The words are a step, how many groups are open, how often the step is done,
 //! how many control sequences it turns about, and whether what the values were is kept.
 #![tactic(auto)]
 
 use etx_groups::{assign, assign_global, begin, end};
-use etx_lists::Bytes;
-use etx_matter::Job;
-use etx_state::{GroupKind, Key, Meaning, State, Val};
-use std::alloc::{AllocError, Global};
+use etx_matter::NameId;
+use etx_state::{GroupKind, Key, Meaning, Rest, Val};
 use std::env;
 use std::rt::Clock;
 use std::time::Instant;
@@ -43,6 +52,9 @@ enum Step {
     InAndOut,
     Open,
     Close,
+    Get,
+    Group,
+    Marked,
     Nothing,
 }
 
@@ -53,17 +65,22 @@ fn step_of(word: &str) -> Step {
         "in-and-out" => Step::InAndOut,
         "open" => Step::Open,
         "close" => Step::Close,
+        "get" => Step::Get,
+        "group" => Step::Group,
+        "marked" => Step::Marked,
         _ => Step::Nothing,
     }
 }
 
-fn opened(alloc: Global) -> Result<State, AllocError> {
-    let job = Job::new(Bytes::from_slice(alloc, b"a.tex")?, 1000);
-    State::open(alloc, &job)
+/// Whether the control sequence means a character.
+#[inline(never)]
+fn get(s: &Rest, name: u32) -> bool {
+    matches!(s.meaning(NameId(name)), Meaning::Char { .. })
 }
 
 /// A local value for this control sequence.
-fn set(s: &mut State, name: u32) -> bool {
+#[inline(never)]
+fn set(s: &mut Rest, name: u32) -> bool {
     assign(
         s,
         Key::Meaning(name),
@@ -73,7 +90,7 @@ fn set(s: &mut State, name: u32) -> bool {
 }
 
 /// A global value for this control sequence.
-fn set_globally(s: &mut State, name: u32) -> bool {
+fn set_globally(s: &mut Rest, name: u32) -> bool {
     assign_global(
         s,
         Key::Meaning(name),
@@ -83,43 +100,70 @@ fn set_globally(s: &mut State, name: u32) -> bool {
 }
 
 /// A group is opened, with a local value in it.
-fn open(s: &mut State, name: u32) -> bool {
+fn open(s: &mut Rest, name: u32) -> bool {
     match begin(s, GroupKind::Simple) {
         Ok(_) => set(s, name),
         Err(_) => false,
     }
 }
 
-fn close(s: &mut State) -> bool {
+fn close(s: &mut Rest) -> bool {
     end(s).is_ok()
 }
 
 /// A group with a local value in it, and its end.
-fn go_in_and_out(s: &mut State, name: u32) -> bool {
+fn go_in_and_out(s: &mut Rest, name: u32) -> bool {
     let went_in = open(s, name);
     let went_out = close(s);
     went_in & went_out
 }
 
-fn act(s: &mut State, step: Step, name: u32) -> bool {
+/// An empty group.
+fn go_through(s: &mut Rest) -> bool {
+    let went_in = begin(s, GroupKind::Simple).is_ok();
+    let went_out = close(s);
+    went_in & went_out
+}
+
+fn set_ten(s: &mut Rest) -> bool {
+    for name in 0..10u32 {
+        if !set(s, name) {
+            return false;
+        }
+    }
+    true
+}
+
+/// A group with ten local values, and a mark before its end, which has to keep all that the end takes away.
+fn go_in_and_out_marked(s: &mut Rest) -> bool {
+    let went_in = begin(s, GroupKind::Simple).is_ok() && set_ten(s);
+    let _ = s.mark();
+    let went_out = close(s);
+    went_in & went_out
+}
+
+fn act(s: &mut Rest, step: Step, name: u32) -> bool {
     match step {
         Step::Local => set(s, name),
         Step::Global => set_globally(s, name),
         Step::InAndOut => go_in_and_out(s, name),
         Step::Open => open(s, name),
         Step::Close => close(s),
-        Step::Nothing => false,
+        Step::Get => get(s, name),
+        Step::Group => go_through(s),
+        Step::Marked => go_in_and_out_marked(s),
+        Step::Nothing => true,
     }
 }
 
 /// How often the step went well.
-fn repeat(s: &mut State, step: Step, times: u32, names: u32, keeps: bool) -> u32 {
+fn repeat(s: &mut Rest, step: Step, times: u32, names: u32, keeps: bool) -> u32 {
     let mut well = 0u32;
     for count in 0..times {
         if act(s, step, count % names.max(1)) {
             well = well.saturating_add(1);
         }
-        if !keeps {
+        if !keeps && step != Step::Get && step != Step::Nothing {
             s.forget();
         }
     }
@@ -136,7 +180,7 @@ struct Asked {
     keeps: bool,
 }
 
-fn measure(rt: &(impl Print + Clock), s: &mut State, asked: Asked) -> anyhow::Result<()> {
+fn measure(rt: &(impl Print + Clock), s: &mut Rest, asked: Asked) -> anyhow::Result<()> {
     let named = repeat(s, Step::Global, 1024, 1024, false);
     let opened = repeat(s, Step::Open, asked.depth, 1024, false);
     let start = Instant::now(rt)?;
@@ -164,7 +208,7 @@ fn main(rt: HostRuntime) -> anyhow::Result<()> {
     let times = number(words.next());
     let names = number(words.next());
     let keeps = number(words.next()) == 1;
-    let mut s = opened(alloc)?;
+    let mut s = Rest::open(alloc)?;
     measure(
         &rt,
         &mut s,
@@ -218,6 +262,26 @@ def time_steps(program):
     return well
 
 
+def count(program, step, times, names):
+    """How many instructions the program takes, all in all."""
+    words = ["valgrind", "--tool=cachegrind", "--cache-sim=no", "--cachegrind-out-file=/dev/null", program, step, "0", str(times), str(names), "0"]
+    ran = subprocess.run(words, stdin=subprocess.DEVNULL, stdout=subprocess.PIPE, stderr=subprocess.PIPE, text=True)
+    return int(re.search(r"I\s+refs:\s+([\d,]+)", ran.stderr).group(1).replace(",", ""))
+
+
+def count_steps(program):
+    """Whether no step takes more instructions with 5000 names than with 10."""
+    if shutil.which("valgrind") is None:
+        print("instructions are not counted: valgrind is not installed")
+        return True
+    well = True
+    for step in COUNTED:
+        each = [(count(program, step, 16000, names) - count(program, step, 6000, names)) / 10000 for names in (10, 5000)]
+        print(f"{step}: {each[0]:.0f} instructions with 10 names, {each[1]:.0f} with 5000")
+        well = well and each[1] <= 1.05 * each[0] + 5
+    return well
+
+
 def weigh_values(program):
     """Whether each value takes no more memory than is asked."""
     well = True
@@ -228,15 +292,15 @@ def weigh_values(program):
             return False
         each = (more[1] - less[1]) / VALUES
         print(f"{VALUES} values, {kind}: {each:.0f} bytes each")
-        well = well and each <= MOST_BYTES
+        well = well and each <= MOST_BYTES[kind]
     return well
 
 
 def main():
     with tempfile.TemporaryDirectory() as folder:
-        program = common.build_program(folder, "group_bench", PROGRAM, ["etx_groups", "etx_state", "etx_matter", "etx_lists", "anyhow"])
-        well = time_steps(program)
-        return 0 if weigh_values(program) and well else 1
+        program = common.build_program(folder, "group_bench", PROGRAM, ["etx_groups", "etx_state", "etx_matter", "anyhow"])
+        wells = [count_steps(program), time_steps(program), weigh_values(program)]
+        return 0 if all(wells) else 1
 
 
 if __name__ == "__main__":

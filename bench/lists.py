@@ -1,5 +1,5 @@
 #!/usr/bin/env python3
-"""Times lists of nodes: building, copying, appending and cutting, and boxes nested up to 400 deep.
+"""Times lists of nodes: building, copying, appending and cutting, and boxes nested up to 400 deep. Counts instructions.
 
     bench/lists.py
 
@@ -7,9 +7,11 @@ It builds a small program over a copy of crates/etx_matter in a folder of its ow
 minutes. What counts is the time of the processor, without that of a run that does nothing, and of seven runs the
 shortest, since the machine may be busy. Each run takes its memory anew. It asks that the time for a node, or for a box,
 of the longest list is at most three times that of the shortest: so the times grow with the length and not with its
-square. It is no part of the gate. Exit status 1 where something is not as asked.
+square. Then it counts the instructions of a node that is built, copied and dropped, by the difference of two runs of
+different lengths under `valgrind`. It is no part of the gate. Exit status 1 where something is not as asked.
 """
 import os
+import re
 import subprocess
 import sys
 import tempfile
@@ -20,11 +22,16 @@ ROUNDS = 7
 SIZES = [65536, 262144, 1048576]
 DEPTHS = [100, 200, 400]
 LISTS = {"build": "built", "copy": "built and copied", "append": "built, copied and appended", "cut": "built, copied, appended and cut"}
-BOXES = {"boxes": "built", "duplicate": "built, and copied 1000 times", "measure": "built, and measured 1000 times"}
+BOXES = {"boxes": "built", "duplicate": "built, and copied 1000 times"}
+COUNTED = {"build": "built and dropped", "copy": "built, copied and dropped", "glue": "glue: built and dropped", "spaces": "glue: built, copied and dropped"}
 PROGRAM = r"""//! Lists of nodes.
-#![tactic(auto)]
+#![tactic(auto, unfolding(etx_matter::specs::Nests::IsNested, etx_matter::specs::Nests::AreNested, etx_matter::specs::Nests::IsNestedBox, etx_matter::specs::Nests::IsNestedInner, etx_matter::specs::Nests::list_depth, etx_matter::specs::Nests::node_depth, etx_matter::specs::Nests::box_depth, etx_matter::specs::Nests::inner_depth))]
+ghost use Rattle.std.specs.Prelude.{IfOk};
+ghost use Rattle.etx_matter.specs.Nests.{IsNested, AreNested};
 
-use etx_matter::{BoxNode, CharSize, GlueSet, Node, Nodes, copy_nodes, nesting};
+use etx_matter::{
+    BoxNode, Boxed, CharSize, Glue, GlueOrder, GlueSet, InnerList, Node, Nodes, copy_nodes, nesting,
+};
 use std::alloc::{AllocError, Global};
 use std::io;
 
@@ -39,6 +46,30 @@ fn letter() -> Node {
             italic: 0,
         },
     }
+}
+
+fn space() -> Node {
+    Node::Glue(Glue {
+        width: 218453,
+        stretch: 109226,
+        shrink: 72818,
+        stretch_order: GlueOrder::Normal,
+        shrink_order: GlueOrder::Normal,
+    })
+}
+
+fn glue(alloc: Global, size: u32) -> Result<Nodes, AllocError> {
+    let mut list = Nodes::new(alloc);
+    for _ in 0..size {
+        list.push(space())?;
+    }
+    Ok(list)
+}
+
+fn spaces(alloc: Global, size: u32) -> Result<u64, AllocError> {
+    let list = glue(alloc, size)?;
+    let copy = copy_nodes(alloc, &list)?;
+    Ok(copy.len() as u64)
 }
 
 fn build(alloc: Global, size: u32) -> Result<Nodes, AllocError> {
@@ -69,21 +100,27 @@ fn cut(alloc: Global, size: u32) -> Result<u64, AllocError> {
     Ok(rest.len() as u64)
 }
 
-fn nest(alloc: Global, list: Nodes) -> Result<Nodes, AllocError> {
-    let mut outer = Nodes::new(alloc);
-    outer.push(Node::Box(BoxNode {
+fn nest(alloc: Global, list: Nodes) -> Result<Nodes, AllocError>
+    requires { AreNested list }
+    ensures { IfOk result (λ outer. AreNested outer) }
+{
+    let it = BoxNode {
         vertical: false,
         width: 0,
         height: 0,
         depth: 0,
         shift: 0,
         set: GlueSet::natural(),
-        list,
-    }))?;
+        list: InnerList::new(list),
+    };
+    let mut outer = Nodes::new(alloc);
+    outer.push(Node::Box(Boxed::new(alloc, it)?))?;
     Ok(outer)
 }
 
-fn boxes(alloc: Global, depth: u32) -> Result<Nodes, AllocError> {
+fn boxes(alloc: Global, depth: u32) -> Result<Nodes, AllocError>
+    ensures { IfOk result (λ list. AreNested list) }
+{
     let mut list = Nodes::new(alloc);
     for _ in 0..depth {
         list = nest(alloc, list)?;
@@ -99,18 +136,6 @@ fn duplicate(alloc: Global, depth: u32) -> Result<u64, AllocError> {
     Ok(u64::from(nesting(&list)))
 }
 
-fn measure(alloc: Global, depth: u32) -> Result<u64, AllocError> {
-    let mut list = boxes(alloc, depth)?;
-    let mut sum: u64 = 0;
-    for _ in 0..1000 {
-        // (a list that stays the same would be measured once)
-        list.push(letter())?;
-        sum = sum.saturating_add(u64::from(nesting(&list)));
-        let _last = list.pop();
-    }
-    Ok(sum / 1000)
-}
-
 fn count(alloc: Global, what: &str, size: u32) -> Result<u64, AllocError> {
     match what {
         "build" => Ok(build(alloc, size)?.len() as u64),
@@ -119,7 +144,8 @@ fn count(alloc: Global, what: &str, size: u32) -> Result<u64, AllocError> {
         "cut" => cut(alloc, size),
         "boxes" => Ok(u64::from(nesting(&boxes(alloc, size)?))),
         "duplicate" => duplicate(alloc, size),
-        "measure" => measure(alloc, size),
+        "glue" => Ok(glue(alloc, size)?.len() as u64),
+        "spaces" => spaces(alloc, size),
         _ => Ok(0),
     }
 }
@@ -141,6 +167,13 @@ fn main(rt: HostRuntime) -> io::Result<()> {
     Ok(())
 }
 """
+
+PROOFS = {"boxes/Invariants.antt": """use Rattle.etx_matter.specs.Nests.{AreNested}
+use Rattle.list_bench.proofs.boxes.Given as goal
+
+abbrev pub invariant-loop : goal.invariant-loop
+invariant-loop l = AreNested l.list
+"""}
 
 
 def run(program, line):
@@ -176,10 +209,29 @@ def compare(program, kinds, sizes, unit):
     return bad
 
 
+def instructions(program, line):
+    """How many instructions the program carries out on this line."""
+    words = ["valgrind", "--tool=cachegrind", "--cache-sim=no", "--cachegrind-out-file=/dev/null", program]
+    ran = subprocess.run(words, input=line, stdout=subprocess.DEVNULL, stderr=subprocess.PIPE, text=True)
+    found = re.search(r"I +refs: +([0-9,]+)", ran.stderr)
+    if not found:
+        sys.exit("valgrind tells no count:\n" + ran.stderr[-1000:])
+    return int(found.group(1).replace(",", ""))
+
+
+def count_instructions(program):
+    """Prints the instructions of a node in each kind of work."""
+    few, many = SIZES[0], SIZES[1]
+    for what, told in COUNTED.items():
+        more = instructions(program, f"{what} {many}\n") - instructions(program, f"{what} {few}\n")
+        print(f"{told}: {more / (many - few):.1f} instructions a node")
+
+
 def main():
     with tempfile.TemporaryDirectory() as folder:
-        program = common.build_program(folder, "list_bench", PROGRAM, ["etx_matter"])
+        program = common.build_program(folder, "list_bench", PROGRAM, ["etx_matter"], PROOFS)
         bad = compare(program, LISTS, SIZES, "node") + compare(program, BOXES, DEPTHS, "box")
+        count_instructions(program)
     for told in bad:
         print(f"NOT linear: {told}")
     return 1 if bad else 0

@@ -64,7 +64,8 @@ def tower(before, piece, floors):
     """The job that reads the body 10 times as often with each floor more."""
     lines = [CATEGORIES, before, f"\\def\\A{{{piece * PIECES}}}"]
     for floor in range(floors):
-        lines.append(f"\\def\\{'BCDEFGH'[floor]}{{{('\\' + 'ABCDEFG'[floor]) * 10}}}")
+        calls = ("\\" + "ABCDEFG"[floor]) * 10
+        lines.append(f"\\def\\{'BCDEFGH'[floor]}{{{calls}}}")
     lines.append("\\" + "ABCDEFGH"[floors])
     return "\n".join(lines + ["\\end", ""])
 

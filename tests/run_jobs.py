@@ -7,7 +7,8 @@
 
 A job NAME, in tests/jobs or a folder of it, is
 
-    NAME.tex       its main file
+    NAME.tex       its main file, or
+    NAME.made      a Python program that prints it, where it would be large
     NAME.answer    `status N`, a line `wrote FILE` for each file that it made or changed, an empty line, and then what it
                    said on the terminal, byte by byte; a FILE that ends in .log has to hold the same bytes
     NAME.words     the words behind `etx`, a line a run, quoted as in a shell: each run has this answer; without this file
@@ -17,7 +18,8 @@ A job NAME, in tests/jobs or a folder of it, is
 `--program FILE` runs another program than crates/etx/out/etx. `--real` asks `--reftex FILE`, a program that runs real e-TeX
 as INITEX on a file and prints its terminal text in the layout of `etx`; without it, tools/reftex.py of a folder `shared`
 beside the repository, or beside the folder that the repository is in, is taken. It leaves out jobs with words of their own,
-and those that end at what isn't built. Where that program or real e-TeX is missing it says so, and its exit status is 0.
+those that end at what isn't built, and those with a status that `etx` alone has. Where that program or real e-TeX is missing
+it says so, and its exit status is 0.
 
 Otherwise the exit status is 1 where an answer differs or is missing, or where there is no job or no program.
 """
@@ -37,7 +39,8 @@ JOBS = os.path.join(ROOT, "tests", "jobs")
 PROGRAM = os.path.join(ROOT, "crates", "etx", "out", "etx")
 REFTEX = [os.path.join(ROOT, above, "shared", "tools", "reftex.py") for above in ("..", os.path.join("..", ".."))]
 UNBUILT = b"*** (not built yet)\n"
-ENDINGS = (".tex", ".words", ".answer")
+ENDINGS_OF_TEX = (b"status 0\n", b"status 1\n", b"status 2\n")
+ENDINGS = (".tex", ".made", ".words", ".answer")
 SECONDS = 60
 MOST_LINES = 14
 
@@ -76,9 +79,12 @@ def lay_out(job, folder):
     further = os.path.join(JOBS, job + ".files")
     if os.path.isdir(further):
         shutil.copytree(further, folder, dirs_exist_ok=True)
-    main = os.path.join(JOBS, job + ".tex")
+    main, made = os.path.join(JOBS, job + ".tex"), os.path.join(JOBS, job + ".made")
     if os.path.isfile(main):
         shutil.copy(main, folder)
+    if os.path.isfile(made):
+        with open(os.path.join(folder, os.path.basename(main)), "wb") as file:
+            subprocess.run([sys.executable, made], stdout=file, check=True)
 
 
 def files_in(folder):
@@ -166,9 +172,9 @@ def compare(reftex, job):
 
 def can_be_asked(job):
     """Whether real e-TeX can tell the answer of a job."""
-    answer = read(os.path.join(JOBS, job + ".answer"))
-    has_words = os.path.isfile(os.path.join(JOBS, job + ".words"))
-    return answer is not None and not has_words and UNBUILT not in answer
+    answer = read(os.path.join(JOBS, job + ".answer")) or b""
+    has_main, has_words = (os.path.isfile(os.path.join(JOBS, job + it)) for it in (".tex", ".words"))
+    return answer.startswith(ENDINGS_OF_TEX) and has_main and not has_words and UNBUILT not in answer
 
 
 def do_all(what, tool, jobs):

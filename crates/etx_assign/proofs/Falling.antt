@@ -1,83 +1,60 @@
--- What an assignment makes of a token that was paid for goes on.
-use Rattle.std.proofs.Common.{◌≡◌, ℕ, ◌+◌, Option, Some, None, Bool, List, [], ◌∷◌, inl, inr, refl, sym, subst, arith}
+-- Each turn of assignments goes on, whatever its rows decide.
+use Rattle.std.proofs.Common.{◌≡◌, ℕ, ℤ, ◌+◌, ◌≤◌, Bool, refl, arith}
 use Rattle.etx_matter.specs.declared.token.Token.{Token}
-use Rattle.etx_input.specs.declared.origin.Origin.TheVariants.{Fresh}
 use Rattle.etx_state.specs.declared.key.Meaning.{Meaning}
-use Rattle.etx_state.specs.declared.scan.Scan.{Scan}
-use Rattle.etx_state.specs.declared.scan.Scan.TheVariants as scan
-use Rattle.etx_state.specs.declared.scan.Keeper.{Keeper}
+use Rattle.etx_state.specs.declared.scan.AssignNumber.{AssignNumber}
+use Rattle.etx_state.specs.declared.scan.NumberFinish.TheVariants as finish
+use Rattle.etx_state.specs.declared.scan.AssignScan.{AssignScan}
+use Rattle.etx_state.specs.declared.scan.Value.TheVariants as value
 use Rattle.etx_state.specs.declared.scan.Keeper.TheVariants as keeper
+use Rattle.etx_state.specs.declared.scan.Scan.TheVariants as scan
 use Rattle.etx_state.specs.declared.scan.Entry.{Entry}
 use Rattle.etx_state.specs.declared.scan.Entry.TheVariants as entry
-use Rattle.etx_state.specs.States.{Mouth, with_values, with_scans, kept_in}
-use Rattle.etx_expand.specs.declared.plan.Value.{Value}
-use Rattle.etx_expand.specs.declared.plan.Value.TheVariants as value
-use Rattle.etx_expand.specs.declared.plan.Turned.{Turned}
-use Rattle.etx_expand.specs.Measure.{scan_weight, entry_weight, stack_weight, Pays, Goes}
-use Rattle.etx_expand.specs.Moves.{put_back, read_next}
-use Rattle.etx_expand.proofs.Falling.{GoesTo, Grows, enough, ended_list, back_grows, moved_goes}
-use Rattle.etx_assign.specs.Assignments.{without_kept}
-use Rattle.etx_assign.specs.Rows.{row_of, given_meaning}
-use Rattle.etx_assign.specs.Turn.{planned_turn, future_over, future_over_in, future_turn, kept_turn, entry_turn, token_turn, went}
+use Rattle.etx_state.specs.Mouths.{Mouth, with_rest}
+use Rattle.etx_expand.specs.declared.fetch.Idle.TheVariants as idle
+use Rattle.etx_expand.specs.declared.fetch.Fetched.{Fetched}
+use Rattle.etx_expand.specs.declared.fetch.Fetched.TheVariants as fetched
+use Rattle.etx_expand.specs.Measure.{back_weight, weight, Steps, PaidFor, Falls, Goes}
+use Rattle.etx_expand.specs.Moves.{entered, scanning, put_back, insert_if, turned_by}
+use Rattle.etx_expand.specs.Turn.{keeper_fetched}
+use Rattle.etx_expand.proofs.Falling.{keeper_fetched_pays, planned_goes, finished_goes, expanded_goes, over_goes, cut_goes, falls_above, above_steps, both_back, both_steps, falls_same, insert_if_adds}
+use Rattle.etx_assign.specs.Assignments.{Over, over}
+use Rattle.etx_assign.specs.Codes.{number_taken}
+use Rattle.etx_assign.specs.Meanings.{given_meaning}
+use Rattle.etx_assign.specs.Turn.{assign_row, assign_token, number_turn, future_over, future_token, future_with, future_turn}
 
--- the main loop's scan is none of an assignment
-command_goes : (t : Token) (mm : Meaning) (old m : Mouth) → GoesTo old (planned_turn t (row_of scan.Command t mm m) m)
-unfolding row_of
-command_goes t mm old m = tt
+pub assign_goes : (left : ℕ) (a : AssignScan) (t : Token) (mm : Meaning) (old m : Mouth) → Falls back_weight old m → Steps 1 old m → Goes (scanning left (scan.Assign a) old) (assign_token left a t mm m)
+assign_goes left a t mm old m paid steps = planned_goes left (scan.Assign a) t (assign_row a t mm m.rest) old m paid steps
 
--- a row's move goes
-planned_goes : (f : Scan) (t : Token) (mm : Meaning) (old m : Mouth) → Pays (64 + scan_weight f) old m → GoesTo old (planned_turn t (row_of f t mm m) m)
-planned_goes scan.Command t mm old m paid = command_goes t mm old m
-planned_goes f t mm old m paid = moved_goes t (row_of f t mm m).go old (with_values (row_of f t mm m).values m) paid
+pub number_goes : (left : ℕ) (f : AssignNumber) (n : ℤ) (m : Mouth) → Goes (entered (entry.Given left (value.Number n (finish.Assign f))) m) (number_turn left f n m)
+number_goes left f n m = finished_goes left (value.Number n (finish.Assign f)) (number_taken f n m.rest) m
 
--- two tokens are read again for one that was kept and one that was got
-future_grows : (o : Option Token) (first t : Token) (m : Mouth) → Grows 128 m (future_over o first t m)
-future_grows None first t m =
-    let h = back_grows t m in
-    let k = back_grows first (put_back t m) in
-    record { spent = refl; weight = omega (arith, h.weight, k.weight) }
-future_grows (Some u) first t m =
-    let v = with_values (without_kept m.values) m in
-    let h = back_grows t v in
-    let k = back_grows first (put_back t v) in
-    let l = ended_list (put_back first (put_back t v)) (u ∷ []) in
-    record { spent = refl; weight = omega (arith, h.weight, k.weight, l.weight) }
+abbrev kept_entry : Bool → Token → Token → Entry
+kept_entry is_global name first = entry.Kept first (keeper.Future is_global name)
 
-future_goes : (is_global : Bool) (name first t : Token) (mm : Meaning) (old m : Mouth) → Pays 129 old m → GoesTo old (future_turn is_global name first t mm m)
+-- the two tokens are read again, behind one that may be kept
+over_goes_on : (e : Entry) (o : Over) (first t : Token) (old m : Mouth) → Falls 1 (entered e old) (put_back first (put_back t m)) → Falls 1 (entered e old) (future_over o first t m)
+over_goes_on e o first t old m falls =
+    let h = insert_if_adds o.kept (put_back first (put_back t (with_rest o.rest m))) in
+    falls_same 1 (entered e old) (put_back first (put_back t (with_rest o.rest m))) (future_over o first t m) h falls
+
+over_steps : (e : Entry) (o : Over) (first t : Token) (old m : Mouth) → Steps 2 (entered e old) (put_back first (put_back t m)) → Steps 2 (entered e old) (future_over o first t m)
+over_steps e o first t old m steps =
+    let h = insert_if_adds o.kept (put_back first (put_back t (with_rest o.rest m))) in
+    record { forth = omega (arith, h.spent, steps.forth); few = omega (arith, h.spent, steps.few) }
+
+pub future_goes : (is_global : Bool) (name first : Token) (m : Mouth) → Goes (entered (entry.Kept first (keeper.Future is_global name)) m) (future_turn is_global name first m)
 unfolding future_turn
-future_goes is_global name first t mm old m paid =
-    let v = with_values (given_meaning is_global name mm m.values) m in
-    enough 128 1 old v (future_over_in first t v) paid (future_grows (kept_in v.values) first t v)
-
-kept_goes : (by : Keeper) (first t : Token) (mm : Meaning) (old m : Mouth) → Pays 129 old m → GoesTo old (kept_turn by first t mm m)
-kept_goes keeper.ExpandAfter first t mm old m paid = tt
-kept_goes (keeper.Future is_global name) first t mm old m paid = future_goes is_global name first t mm old m paid
-
-entry_goes : (e : Entry) (t : Token) (mm : Meaning) (old m : Mouth) → Pays (64 + entry_weight e) old m → GoesTo old (entry_turn e t mm m)
-unfolding entry_turn
-entry_goes (entry.Scan f) t mm old m paid = planned_goes f t mm old m paid
-entry_goes (entry.Kept first by) t mm old m paid = kept_goes by first t mm old m paid
-entry_goes (entry.PutBack u) t mm old m paid = tt
-entry_goes (entry.Say text is_parted) t mm old m paid = tt
-
--- what was paid, where the top was taken off the stack
-off : (n : ℕ) (e : Entry) (es : List Entry) (old m : Mouth) → m.scans ≡ e ∷ es → n ≡ entry_weight e → Pays 64 old m → Pays (64 + n) old (with_scans es m)
-off n e es old m is weighs (inl more) = inl more
-off n e es old m is weighs (inr fell) = inr (fell.0, omega (arith, fell.1, lighter))
+future_goes is_global name first m = by (keeper_fetched (keeper.Future is_global name) m).fetched (keeper_fetched (keeper.Future is_global name) m).now (keeper_fetched_pays (keeper.Future is_global name) m).paid (keeper_fetched_pays (keeper.Future is_global name) m).steps
   where
-    lighter : stack_weight m.scans ≡ n + stack_weight es
-    lighter = rw (is, weighs)
-
-token_goes : (es : List Entry) (t : Token) (mm : Meaning) (old m : Mouth) → m.scans ≡ es → Pays 64 old m → GoesTo old (token_turn es t mm m)
-token_goes [] t mm old m is paid = tt
-token_goes (e ∷ es) t mm old m is paid = entry_goes e t mm old (with_scans es m) (off (entry_weight e) e es old m is refl paid)
-
-pub went_goes : (v : Value) (old m : Mouth) → Pays 64 old m → GoesTo old (went v m)
-unfolding went
-went_goes (value.One t mm) old m paid = token_goes m.scans t mm old m refl paid
-went_goes (value.List ts) old m paid = tt
-
--- the same, of a mouth and an answer that are equal
-pub went_goes_to : (v : Value) (old m new : Mouth) (d : Turned) → new ≡ (went v m).now → d ≡ (went v m).turned → Pays 64 old m → Goes d old new
-went_goes_to v old m new d now is paid =
-    subst (λ (u : Mouth). Goes d old u) (sym now) (subst (λ (y : Turned). Goes y old (went v m).now) (sym is) (went_goes v old m paid))
+    by : (x : Fetched) (n : Mouth) → PaidFor x m n → Steps 1 m n → Goes (entered (kept_entry is_global name first) m) (future_with is_global name first x n)
+    by (fetched.Token t mm) n paid steps =
+        let e = kept_entry is_global name first in
+        let o = over (given_meaning is_global name mm n.rest) in
+        let s = over_steps e o first t m n (both_steps e first t m n steps) in
+        record { comes = over_goes_on e o first t m n (both_back e first t m n refl paid steps); forth = s.forth; few = s.few }
+    by (fetched.Idle (idle.Expands t what)) n paid steps =
+        let e = kept_entry is_global name first in
+        expanded_goes what t (entered e m) (entered e n) (falls_above back_weight e e m n (omega arith) paid) (above_steps e e m n steps)
+    by (fetched.Idle (idle.Over d)) n paid steps = over_goes (kept_entry is_global name first) (turned_by d n) m n paid steps
+    by (fetched.Idle (idle.Cut text)) n paid steps = cut_goes (kept_entry is_global name first) (kept_entry is_global name first) text m n steps

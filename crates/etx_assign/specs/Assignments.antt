@@ -1,4 +1,4 @@
--- What an assignment does to the values, and to the token that \afterassignment keeps ("TeX: The Program", sections 1208 to
+-- What an assignment does to the values, what is read behind it, and what may stand before it ("TeX: The Program", sections 1208 to
 -- 1217 and 1269).
 use Rattle.std.specs.Prelude.{ℕ, ℤ, pos, negsuc, zero, suc, Bool, true, false, ◌||◌, List, [], ◌∷◌, Option, Some, None}
 use Rattle.etx_matter.specs.declared.token.Token.{Token}
@@ -15,20 +15,13 @@ use Rattle.etx_state.specs.declared.key.Val.{Val}
 use Rattle.etx_state.specs.declared.key.Val.TheVariants as val
 use Rattle.etx_state.specs.declared.scan.Prefixes.{Prefixes}
 use Rattle.etx_state.specs.Values.{Values, assign, assign_global, change}
-use Rattle.etx_state.specs.States.{int_in, kept_in}
-use Rattle.etx_expand.specs.declared.plan.Push.TheVariants.{Nothing, Text}
-use Rattle.etx_expand.specs.declared.plan.Move.{Move}
-use Rattle.etx_expand.specs.declared.plan.Move.TheVariants.{Used, Back, BackUnder}
-use Rattle.etx_assign.specs.declared.prefix.Behind.{Behind}
-use Rattle.etx_assign.specs.declared.prefix.Behind.TheVariants as behind
-
--- the values behind an assignment, and what becomes of the token
-pub record Planned : Type 0 where
-  pub values : Values
-  pub go : Move
-
-abbrev pub planned : Values → Move → Planned
-planned v go = record { values = v; go = go }
+use Rattle.etx_state.specs.Reading.{int_in, kept_in}
+use Rattle.etx_state.specs.Rests.{RestState, with_values}
+use Rattle.etx_expand.specs.declared.plan.Move.TheVariants.{Used}
+use Rattle.etx_expand.specs.declared.plan.Then.TheVariants.{Insert}
+use Rattle.etx_expand.specs.Answers.{Planned, planned, Finished, finished, insert_token}
+use Rattle.etx_assign.specs.declared.prefix.Follower.{Follower}
+use Rattle.etx_assign.specs.declared.prefix.Follower.TheVariants as follower
 
 -- where a control sequence has its meaning; other tokens have none of their own
 abbrev pub key_of : Token → Key
@@ -63,25 +56,25 @@ is_global_def_in v is_global always = global_def_by (int_in v GlobalDefs) is_glo
 unfoldable pub without_kept : Values → Values
 without_kept v = change v key.AfterAssignment (val.Kept None)
 
--- an assignment is over, and its last token is used up: the kept token is read next, once
-abbrev pub over_by : Option Token → Values → Planned
-over_by None v = planned v (Used Nothing)
-over_by (Some t) v = planned (without_kept v) (Used (Text (t ∷ [])))
+-- behind an assignment the token is read that \afterassignment keeps, once
+pub record Over : Type 0 where
+  pub rest : RestState
+  pub kept : Option Token
 
-unfoldable pub over : Values → Planned
-over v = over_by (kept_in v) v
+abbrev pub over_by : Option Token → RestState → Over
+over_by None r = record { rest = r; kept = None }
+over_by (Some t) r = record { rest = with_values (without_kept r.values) r; kept = Some t }
 
--- the same where the last token is read again
-abbrev pub over_before_by : Option Token → Values → Planned
-over_before_by None v = planned v Back
-over_before_by (Some t) v = planned (without_kept v) (BackUnder t)
+unfoldable pub over : RestState → Over
+over r = over_by (kept_in r.values) r
 
-unfoldable pub over_before : Values → Planned
-over_before v = over_before_by (kept_in v) v
+-- an assignment of a scan is over, and its last token is used up
+abbrev pub scan_over : Over → Planned
+scan_over o = planned o.rest (Used (insert_token o.kept))
 
-abbrev pub over_if : Bool → Values → Planned
-over_if true v = over v
-over_if false v = over_before v
+-- an assignment of a finisher is over
+abbrev pub value_over : Over → Finished
+value_over o = finished o.rest (Insert (insert_token o.kept))
 
 -- ---- prefixes
 
@@ -136,7 +129,7 @@ definition_of (prims.Def kind) = Some kind
 definition_of _ = None
 
 -- what a command is to the prefixes before it: \relax is skipped, and a prefix is one more
-unfoldable pub follower_of : Primitive → Behind
-follower_of prims.Relax = behind.Nothing
-follower_of (prims.Prefix kind) = behind.Prefix kind
-follower_of _ = behind.Command
+unfoldable pub follower_of : Primitive → Follower
+follower_of prims.Relax = follower.Nothing
+follower_of (prims.Prefix kind) = follower.Prefix kind
+follower_of _ = follower.Command

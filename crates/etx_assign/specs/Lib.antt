@@ -1,3 +1,6 @@
 pub mod Assignments
-pub mod Rows
+pub mod Codes
+pub mod Definitions
+pub mod Meanings
+pub mod Prefixes
 pub mod Turn

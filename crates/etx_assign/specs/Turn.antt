@@ -1,52 +1,83 @@
--- What an assignment does with the token that its scan wished for.
-use Rattle.std.specs.Prelude.{Bool, List, [], ◌∷◌, Option, Some, None}
+-- The turns of assignments: a scan gets a token, a finisher a number, and \futurelet the second of its tokens.
+use Rattle.std.specs.Prelude.{ℕ, ℤ, Bool, [], ◌∷◌, Option, Some, None}
 use Rattle.etx_matter.specs.declared.token.Token.{Token}
-use Rattle.etx_matter.specs.declared.end.End.TheVariants.{Unbuilt}
 use Rattle.etx_input.specs.declared.origin.Origin.TheVariants.{Fresh}
+use Rattle.etx_state.specs.declared.key.Key.TheVariants as key
+use Rattle.etx_state.specs.declared.key.Val.TheVariants as val
 use Rattle.etx_state.specs.declared.key.Meaning.{Meaning}
-use Rattle.etx_state.specs.declared.scan.Keeper.{Keeper}
+use Rattle.etx_state.specs.declared.scan.AssignNumber.{AssignNumber}
+use Rattle.etx_state.specs.declared.scan.AssignScan.{AssignScan}
+use Rattle.etx_state.specs.declared.scan.AssignScan.TheVariants as assign
 use Rattle.etx_state.specs.declared.scan.Keeper.TheVariants as keeper
-use Rattle.etx_state.specs.declared.scan.Entry.{Entry}
 use Rattle.etx_state.specs.declared.scan.Entry.TheVariants as entry
-use Rattle.etx_state.specs.States.{Mouth, with_values, with_scans, kept_in}
-use Rattle.etx_expand.specs.declared.plan.Value.{Value}
-use Rattle.etx_expand.specs.declared.plan.Value.TheVariants as value
+use Rattle.etx_state.specs.Values.{change, noted}
+use Rattle.etx_state.specs.Rests.{RestState, with_values}
+use Rattle.etx_state.specs.Mouths.{Mouth, with_rest}
+use Rattle.etx_expand.specs.declared.fetch.Idle.{Idle}
+use Rattle.etx_expand.specs.declared.fetch.Idle.TheVariants as idle
+use Rattle.etx_expand.specs.declared.fetch.Fetched.{Fetched}
+use Rattle.etx_expand.specs.declared.fetch.Fetched.TheVariants as fetched
+use Rattle.etx_expand.specs.declared.plan.Move.TheVariants.{Hold}
 use Rattle.etx_expand.specs.declared.plan.Turned.TheVariants as turned
-use Rattle.etx_expand.specs.Moves.{After, after, moved, put_back, read_next}
-use Rattle.etx_assign.specs.Assignments.{Planned, without_kept}
-use Rattle.etx_assign.specs.Rows.{row_of, given_meaning}
+use Rattle.etx_expand.specs.Answers.{Planned, planned, reading, used}
+use Rattle.etx_expand.specs.Moves.{After, after, entered, put_back, insert_if, planned_turn, finished_turn, turned_by, error_deed}
+use Rattle.etx_expand.specs.Turn.{keeper_fetched, expanded_turn}
+use Rattle.etx_assign.specs.Assignments.{Over, over}
+use Rattle.etx_assign.specs.Prefixes.{prefix_row}
+use Rattle.etx_assign.specs.Definitions.{name_row, params_row, body_row}
+use Rattle.etx_assign.specs.Meanings.{given_meaning, let_over, let_equals_row, let_space_row}
+use Rattle.etx_assign.specs.Codes.{number_taken}
 
-abbrev pub planned_turn : Token → Planned → Mouth → After
-planned_turn t p m = moved t p.go (with_values p.values m)
+-- ---- scans
 
--- the two tokens of \futurelet are read again, behind the token that \afterassignment keeps
-abbrev pub future_over : Option Token → Token → Token → Mouth → Mouth
-future_over None first t m = put_back first (put_back t m)
-future_over (Some u) first t m = read_next Fresh (u ∷ []) (put_back first (put_back t (with_values (without_kept m.values) m)))
+-- \aftergroup notes a token in the innermost group
+abbrev pub noted_in : Token → RestState → RestState
+noted_in t r = with_values (noted r.values t) r
 
-abbrev pub future_over_in : Token → Token → Mouth → Mouth
-future_over_in first t m = future_over (kept_in m.values) first t m
+-- \afterassignment keeps one, in no group
+abbrev pub kept_for_later : Token → RestState → RestState
+kept_for_later t r = with_values (change r.values key.AfterAssignment (val.Kept (Some t))) r
 
--- \futurelet gives the meaning of the second token that it looks at
-unfoldable pub future_turn : Bool → Token → Token → Token → Meaning → Mouth → After
-future_turn is_global name first t mm m = after (future_over_in first t (with_values (given_meaning is_global name mm m.values) m)) turned.Again
+-- a line for each scan of assignments
+unfoldable pub assign_row : AssignScan → Token → Meaning → RestState → Planned
+assign_row (assign.Prefix p) t mm r = reading (prefix_row p t mm r) r
+assign_row (assign.Name n) t mm r = reading (name_row n t) r
+assign_row (assign.Params d) t mm r = params_row d t mm r
+assign_row (assign.Body d) t mm r = body_row d t mm r
+assign_row (assign.LetEquals is_global name) t mm r = let_equals_row is_global name t mm r
+assign_row (assign.LetSpace is_global name) t mm r = let_space_row is_global name mm r
+assign_row (assign.LetToken is_global name) t mm r = let_over is_global name mm r
+assign_row (assign.FutureFirst is_global name) t mm r = planned r (Hold (keeper.Future is_global name))
+assign_row assign.AfterGroup t mm r = planned (noted_in t r) used
+assign_row assign.AfterAssignment t mm r = planned (kept_for_later t r) used
 
-abbrev pub kept_turn : Keeper → Token → Token → Meaning → Mouth → After
-kept_turn keeper.ExpandAfter first t mm m = after m (turned.End Unbuilt)
-kept_turn (keeper.Future is_global name) first t mm m = future_turn is_global name first t mm m
+-- what a scan of assignments makes of a token
+abbrev pub assign_token : ℕ → AssignScan → Token → Meaning → Mouth → After
+assign_token left a t mm m = planned_turn left t (assign_row a t mm m.rest) m
 
--- what stood on top gets the token; the entries that no assignment puts there get none
-unfoldable pub entry_turn : Entry → Token → Meaning → Mouth → After
-entry_turn (entry.Scan f) t mm m = planned_turn t (row_of f t mm m) m
-entry_turn (entry.Kept first by) t mm m = kept_turn by first t mm m
-entry_turn (entry.PutBack u) t mm m = after m (turned.End Unbuilt)
-entry_turn (entry.Say text is_parted) t mm m = after m (turned.End Unbuilt)
+-- ---- numbers
 
-abbrev pub token_turn : List Entry → Token → Meaning → Mouth → After
-token_turn [] t mm m = after m (turned.End Unbuilt)
-token_turn (e ∷ es) t mm m = entry_turn e t mm (with_scans es m)
+abbrev pub number_turn : ℕ → AssignNumber → ℤ → Mouth → After
+number_turn left f n m = finished_turn left (number_taken f n m.rest) m
 
--- the scan on top gets the value that it wished for
-unfoldable pub went : Value → Mouth → After
-went (value.One t mm) m = token_turn m.scans t mm m
-went (value.List ts) m = after m (turned.End Unbuilt)
+-- ---- \futurelet
+
+-- its two tokens are read again, behind the token that \afterassignment keeps
+abbrev pub future_over : Over → Token → Token → Mouth → Mouth
+future_over o first t m = insert_if o.kept (put_back first (put_back t (with_rest o.rest m)))
+
+-- it gives the meaning of the second token that it looks at
+abbrev pub future_token : Bool → Token → Token → Token → Meaning → Mouth → After
+future_token is_global name first t mm m = after (future_over (over (given_meaning is_global name mm m.rest)) first t m) turned.Again
+
+abbrev pub future_idle : Bool → Token → Token → Idle → Mouth → After
+future_idle is_global name first (idle.Expands t what) m = expanded_turn what t (entered (entry.Kept first (keeper.Future is_global name)) m)
+future_idle is_global name first (idle.Over d) m = after (entered (entry.Kept first (keeper.Future is_global name)) m) (turned_by d m)
+future_idle is_global name first (idle.Cut text) m = after (entered (entry.Kept first (keeper.Future is_global name)) m) (error_deed text m)
+
+abbrev pub future_with : Bool → Token → Token → Fetched → Mouth → After
+future_with is_global name first (fetched.Token t mm) m = future_token is_global name first t mm m
+future_with is_global name first (fetched.Idle i) m = future_idle is_global name first i m
+
+unfoldable pub future_turn : Bool → Token → Token → Mouth → After
+future_turn is_global name first m = future_with is_global name first (keeper_fetched (keeper.Future is_global name) m).fetched (keeper_fetched (keeper.Future is_global name) m).now

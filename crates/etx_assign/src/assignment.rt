@@ -1,19 +1,18 @@
-//! The end of an assignment.
-ghost use Rattle.std.specs.Prelude.{◌≡◌, ◌∷◌, [], OnOk, IfOk};
+//! The end of an assignment, and where it assigns.
+ghost use Rattle.std.specs.Prelude.{◌≡◌, OnOk, IfOk};
 ghost use Rattle.etx_state.specs.Fits.{Fits};
-ghost use Rattle.etx_state.specs.States.{mouth_of, with_values};
-ghost use Rattle.etx_assign.specs.Assignments.{key_of, assigned, without_kept, over, over_before, over_if, is_global_in, is_global_def_in};
+ghost use Rattle.etx_state.specs.Rests.{rest_of, with_values, Keeps};
+ghost use Rattle.etx_assign.specs.Assignments.{key_of, assigned, without_kept, over, scan_over, value_over, is_global_in, is_global_def_in};
 
-use crate::failure::one;
-use etx_expand::{Move, Push};
+use etx_expand::{Ended, Insert, Move, Plan, Then, finished, insert_token, quiet};
 use etx_groups::{assign, assign_global};
 use etx_matter::Token;
 use etx_prims::IntParam;
-use etx_state::{Key, State, Val};
+use etx_state::{Key, Rest, Val};
 use std::alloc::AllocError;
 
 /// Where a control sequence has its meaning.
-pub(crate) fn key(token: Token) -> Key
+pub(crate) fn key_of(token: Token) -> Key
     ensures { result ≡ key_of token }
 {
     match token {
@@ -24,25 +23,26 @@ pub(crate) fn key(token: Token) -> Key
 }
 
 /// An assignment, local or global.
-pub(crate) fn set(s: &mut State, is_global: bool, key: Key, value: Val) -> Result<(), AllocError>
+pub(crate) fn set(rest: &mut Rest, is_global: bool, key: Key, value: Val) -> Result<(), AllocError>
     requires { Fits key value }
-    ensures { OnOk result (mouth_of s.new ≡ with_values (assigned is_global key value (mouth_of s.old).values) (mouth_of s.old)) }
+    ensures rest { OnOk result (rest_of rest.new ≡ with_values (assigned is_global key value (rest_of rest.old).values) (rest_of rest.old)) }
+    ensures kept { Keeps rest.old rest.new }
 {
     if is_global {
-        assign_global(s, key, value)
+        assign_global(rest, key, value)
     } else {
-        assign(s, key, value)
+        assign(rest, key, value)
     }
 }
 
 /// Whether an assignment is global, where its prefixes say this, by `\globaldefs`.
 #[tactic(auto, unfolding(crate::specs::Assignments::is_global_in))]
-pub(crate) fn is_global(s: &State, by_prefix: bool) -> bool
-    ensures { result ≡ is_global_in (mouth_of s.now).values by_prefix }
+pub(crate) fn is_global_in(rest: &Rest, is_global: bool) -> bool
+    ensures { result ≡ is_global_in (rest_of rest.now).values is_global }
 {
-    let globaldefs = s.int(IntParam::GlobalDefs);
+    let globaldefs = rest.int(IntParam::GlobalDefs);
     if globaldefs == 0 {
-        by_prefix
+        is_global
     } else {
         globaldefs > 0
     }
@@ -50,12 +50,12 @@ pub(crate) fn is_global(s: &State, by_prefix: bool) -> bool
 
 /// The same for a definition that is global by its name, where `always` is true.
 #[tactic(auto, unfolding(crate::specs::Assignments::is_global_def_in))]
-pub(crate) fn is_global_def(s: &State, by_prefix: bool, always: bool) -> bool
-    ensures { result ≡ is_global_def_in (mouth_of s.now).values by_prefix always }
+pub(crate) fn is_global_def_in(rest: &Rest, is_global: bool, always: bool) -> bool
+    ensures { result ≡ is_global_def_in (rest_of rest.now).values is_global always }
 {
-    let globaldefs = s.int(IntParam::GlobalDefs);
+    let globaldefs = rest.int(IntParam::GlobalDefs);
     if globaldefs == 0 {
-        by_prefix || always
+        is_global || always
     } else {
         globaldefs > 0
     }
@@ -63,47 +63,52 @@ pub(crate) fn is_global_def(s: &State, by_prefix: bool, always: bool) -> bool
 
 /// `\afterassignment` keeps a token no longer.
 #[tactic(auto, unfolding(crate::specs::Assignments::without_kept))]
-pub(crate) fn drop_kept(s: &mut State) -> Result<(), AllocError>
-    ensures { OnOk result (mouth_of s.new ≡ with_values (without_kept (mouth_of s.old).values) (mouth_of s.old)) }
+fn drop_kept(rest: &mut Rest) -> Result<(), AllocError>
+    ensures rest { OnOk result (rest_of rest.new ≡ with_values (without_kept (rest_of rest.old).values) (rest_of rest.old)) }
+    ensures kept { Keeps rest.old rest.new }
 {
-    s.set(Key::AfterAssignment, Val::Kept(None))
+    rest.set(Key::AfterAssignment, Val::Kept(None))
 }
 
-/// An assignment is over, whose last token is used up.
+/// An assignment is over: the token that `\afterassignment` kept is handed out, to be read behind it.
 #[tactic(auto, unfolding(crate::specs::Assignments::over))]
-pub(crate) fn end_used(s: &mut State) -> Result<Move, AllocError>
-    ensures now { OnOk result (mouth_of s.new ≡ with_values (over (mouth_of s.old).values).values (mouth_of s.old)) }
-    ensures go { IfOk result (λ go. go ≡ (over (mouth_of s.old).values).go) }
+pub(crate) fn over(rest: &mut Rest) -> Result<Option<Token>, AllocError>
+    ensures rest { OnOk result (rest_of rest.new ≡ (over (rest_of rest.old)).rest) }
+    ensures token { IfOk result (λ token. token ≡ (over (rest_of rest.old)).kept) }
+    ensures kept { Keeps rest.old rest.new }
 {
-    match s.after_assignment() {
-        None => Ok(Move::Used(Push::Nothing)),
+    match rest.after_assignment() {
+        None => Ok(None),
         Some(token) => {
-            drop_kept(s)?;
-            let text = one(s, token)?;
-            Ok(Move::Used(Push::Text(text)))
+            drop_kept(rest)?;
+            Ok(Some(token))
         }
     }
 }
 
-/// An assignment is over, whose last token is read again.
-#[tactic(auto, unfolding(crate::specs::Assignments::over_before))]
-fn end_back(s: &mut State) -> Result<Move, AllocError>
-    ensures now { OnOk result (mouth_of s.new ≡ with_values (over_before (mouth_of s.old).values).values (mouth_of s.old)) }
-    ensures go { IfOk result (λ go. go ≡ (over_before (mouth_of s.old).values).go) }
+/// An assignment of a scan is over, and its last token is used up.
+pub(crate) fn scan_over(rest: &mut Rest) -> Result<Plan, AllocError>
+    ensures rest { OnOk result (rest_of rest.new ≡ (scan_over (over (rest_of rest.old))).rest) }
+    ensures plan { IfOk result (λ plan. plan ≡ (scan_over (over (rest_of rest.old))).plan) }
+    ensures kept { Keeps rest.old rest.new }
 {
-    match s.after_assignment() {
-        None => Ok(Move::Back),
-        Some(token) => {
-            drop_kept(s)?;
-            Ok(Move::BackUnder(token))
-        }
-    }
+    let kept = over(rest)?;
+    Ok(quiet(Move::Used(insert_token(kept))))
 }
 
-/// An assignment is over, whose last token is used up where `is_used` is true, and read again elsewhere.
-pub(crate) fn end(s: &mut State, is_used: bool) -> Result<Move, AllocError>
-    ensures now { OnOk result (mouth_of s.new ≡ with_values (over_if is_used (mouth_of s.old).values).values (mouth_of s.old)) }
-    ensures go { IfOk result (λ go. go ≡ (over_if is_used (mouth_of s.old).values).go) }
+/// An assignment of a finisher is over.
+pub(crate) fn value_over(rest: &mut Rest) -> Result<Ended, AllocError>
+    ensures rest { OnOk result (rest_of rest.new ≡ (value_over (over (rest_of rest.old))).rest) }
+    ensures ended { IfOk result (λ ended. ended ≡ (value_over (over (rest_of rest.old))).ended) }
+    ensures kept { Keeps rest.old rest.new }
 {
-    if is_used { end_used(s) } else { end_back(s) }
+    let kept = over(rest)?;
+    Ok(finished(Then::Insert(insert_token(kept))))
+}
+
+/// Nothing is read behind a token that is used up.
+pub(crate) fn used() -> Move
+    ensures { result ≡ Move.Used Insert.Nothing }
+{
+    Move::Used(Insert::Nothing)
 }

@@ -1,13 +1,13 @@
 //! The control sequence that is defined.
 ghost use Rattle.std.specs.Prelude.{◌≡◌, IfOk};
-ghost use Rattle.etx_expand.specs.Turn.{failure_into};
-ghost use Rattle.etx_assign.specs.Rows.{target_of, inaccessible, missing_name, params_of, let_next, name_row};
+ghost use Rattle.etx_assign.specs.Definitions.{target_of, inaccessible, definition_of, behind_name, name_row};
 
-use crate::failure::fail_into;
-use etx_expand::{Move, Push};
-use etx_matter::{FROZEN_INACCESSIBLE, Token, Tokens};
-use etx_state::{Definition, Prefixes, Scan, State};
-use std::alloc::AllocError;
+use etx_expand::{Move, Plan, fails_back, quiet};
+use etx_lists::Bytes;
+use etx_macros::OpenPattern;
+use etx_matter::{Boxed, FROZEN_INACCESSIBLE, Token, Tokens};
+use etx_state::{AssignScan, Definition, NameFor, Prefixes, Scan};
+use std::alloc::{AllocError, Global};
 
 /// What a token is where a control sequence is to be defined.
 #[derive(Clone, Copy, Debug, PartialEq, Eq)]
@@ -20,8 +20,8 @@ pub(crate) enum Target {
     Missing,
 }
 
-#[tactic(auto, unfolding(crate::specs::Rows::target_of))]
-fn find_target(token: Token) -> Target
+#[tactic(auto, unfolding(crate::specs::Definitions::target_of))]
+fn target_of(token: Token) -> Target
     ensures { result ≡ target_of token }
 {
     match token {
@@ -46,93 +46,54 @@ fn inaccessible() -> Token
     Token::Name(FROZEN_INACCESSIBLE)
 }
 
-/// No control sequence stands where one is to be defined.
-fn fail_without_name(s: &State, scan: Scan) -> Result<Move, AllocError>
-    ensures { IfOk result (λ go. go ≡ failure_into missing_name scan) }
+/// A definition of which only the control sequence was read.
+fn definition_of(alloc: Global, prefixes: Prefixes, is_expanded: bool, name: Token) -> Definition
+    ensures { result ≡ definition_of prefixes is_expanded name }
 {
-    fail_into(s, b"Missing control sequence inserted", scan)
-}
-
-/// The scan of a parameter text.
-fn begin_params(s: &State, prefixes: Prefixes, is_expanded: bool, name: Token) -> Scan
-    ensures { result ≡ params_of prefixes is_expanded name }
-{
-    Scan::DefParams {
-        definition: Definition {
-            prefixes,
-            is_expanded,
-            name,
-            params: Tokens::new(s.alloc()),
-            count: 0,
-            brace: None,
-        },
+    Definition {
+        prefixes,
+        is_expanded,
+        name,
+        pattern: OpenPattern::new(alloc),
+        marks: Bytes::new(alloc),
+        depth: 0,
+        body: Tokens::new(alloc),
         mark: None,
     }
 }
 
-/// What follows the control sequence of `\let` or `\futurelet`.
-fn begin_let(is_global: bool, is_future: bool, name: Token) -> Scan
-    ensures { result ≡ let_next is_global is_future name }
+/// What comes behind the control sequence.
+fn behind_name(alloc: Global, naming: NameFor, name: Token) -> Result<AssignScan, AllocError>
+    ensures { IfOk result (λ scan. scan ≡ behind_name naming name) }
 {
-    if is_future {
-        Scan::FutureFirst { is_global, name }
-    } else {
-        Scan::LetEquals { is_global, name }
+    match naming {
+        NameFor::Def {
+            prefixes,
+            is_expanded,
+        } => {
+            let definition = definition_of(alloc, prefixes, is_expanded, name);
+            Ok(AssignScan::Params(Boxed::new(alloc, definition)?))
+        }
+        NameFor::Let { is_global } => Ok(AssignScan::LetEquals { is_global, name }),
+        NameFor::FutureLet { is_global } => Ok(AssignScan::FutureFirst { is_global, name }),
     }
 }
 
-/// The control sequence of a definition, with what goes on behind it.
-pub(crate) fn define_name(
-    s: &State,
-    prefixes: Prefixes,
-    is_expanded: bool,
-    token: Token,
-) -> Result<Move, AllocError>
-    ensures { IfOk result (λ go. go ≡ name_row (Scan.DefName prefixes is_expanded) (params_of prefixes is_expanded) token) }
+/// A token where a control sequence is to be defined. Spaces are skipped.
+#[tactic(auto, unfolding(crate::specs::Definitions::name_row))]
+pub(crate) fn name_row(alloc: Global, naming: NameFor, token: Token) -> Result<Plan, AllocError>
+    ensures { IfOk result (λ plan. plan ≡ name_row naming token) }
 {
-    match find_target(token) {
-        Target::Blank => Ok(Move::Stay(
-            Scan::DefName {
-                prefixes,
-                is_expanded,
-            },
-            Push::Nothing,
-        )),
+    match target_of(token) {
+        Target::Blank => Ok(quiet(Move::Stay(Scan::Assign(AssignScan::Name(naming))))),
         Target::Given => {
-            let params = begin_params(s, prefixes, is_expanded, token);
-            Ok(Move::Used(Push::Begin(params)))
+            let scan = behind_name(alloc, naming, token)?;
+            Ok(quiet(Move::Begin(Scan::Assign(scan))))
         }
         Target::Missing => {
-            let params = begin_params(s, prefixes, is_expanded, inaccessible());
-            fail_without_name(s, params)
-        }
-    }
-}
-
-/// The control sequence of `\let` or `\futurelet`, with what goes on behind it.
-pub(crate) fn let_name(
-    s: &State,
-    is_global: bool,
-    is_future: bool,
-    token: Token,
-) -> Result<Move, AllocError>
-    ensures { IfOk result (λ go. go ≡ name_row (Scan.LetName is_global is_future) (let_next is_global is_future) token) }
-{
-    match find_target(token) {
-        Target::Blank => Ok(Move::Stay(
-            Scan::LetName {
-                is_global,
-                is_future,
-            },
-            Push::Nothing,
-        )),
-        Target::Given => {
-            let scan = begin_let(is_global, is_future, token);
-            Ok(Move::Used(Push::Begin(scan)))
-        }
-        Target::Missing => {
-            let scan = begin_let(is_global, is_future, inaccessible());
-            fail_without_name(s, scan)
+            let scan = behind_name(alloc, naming, inaccessible())?;
+            let text = b"Missing control sequence inserted";
+            fails_back(alloc, text, Move::Begin(Scan::Assign(scan)))
         }
     }
 }

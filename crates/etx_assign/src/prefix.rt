@@ -1,22 +1,27 @@
-//! Prefixes, and the beginning of an assignment.
+//! Prefixes, and what an assignment begins.
 ghost use Rattle.std.specs.Prelude.{◌≡◌, IfOk};
-ghost use Rattle.etx_state.specs.States.{mouth_of};
+ghost use Rattle.etx_state.specs.Rests.{rest_of};
 ghost use Rattle.etx_expand.specs.Printing.{shown_name};
 ghost use Rattle.etx_assign.specs.Assignments.{no_prefixes, with_prefix, is_for_definitions, is_assignment, definition_of, follower_of};
-ghost use Rattle.etx_assign.specs.Rows.{prefix_text, character_words, shown_primitive, shown_character, named_begun, def_begun, let_begun, code_begun, simple_begun, left_prefixes, irrelevant, other_begun, assignment_begun, prefix_refused, prefixed_by, command_behind_prefixes, character_behind_prefixes, prefix_row};
+ghost use Rattle.etx_assign.specs.Prefixes.{prefix_text, character_words, shown_primitive, shown_character, named, def_named, def_begun, let_begun, catcode_begun, code_begun, simple_begun, left_prefixes, irrelevant, other_begun, assignment_begun, prefix_scan, prefix_refused, prefixed, behind_by, character_behind, prefix_row};
 
-use crate::assignment::{is_global, is_global_def};
-use crate::failure::fail_back;
-use etx_expand::{Move, Push, push_escaped, push_name, push_printed};
+use crate::assignment::{is_global_def_in, is_global_in, used};
+use etx_expand::{
+    Insert, Move, Plan, Push, Start, fails_back, plan_of, push_escaped, push_name, push_printed,
+    quiet, start_ends, start_fails_back, starting,
+};
 use etx_lists::Bytes;
 use etx_matter::{End, Token};
 use etx_prims::{CodeKind, DefKind, LetKind, PrefixKind, Primitive, name_of};
-use etx_state::{Meaning, Prefixes, Scan, State};
+use etx_state::{
+    AssignNumber, AssignScan, Meaning, NameFor, NumberFinish, NumberForm, NumberScan, Prefixes,
+    Rest, Scan,
+};
 use std::alloc::AllocError;
 
 /// What a command is to the prefixes before it.
 #[derive(Clone, Copy, Debug, PartialEq, Eq)]
-pub(crate) enum Behind {
+pub(crate) enum Follower {
     /// `\relax`, which is skipped.
     Nothing,
     /// One prefix more.
@@ -107,7 +112,7 @@ pub fn is_assignment(primitive: Primitive) -> bool
 }
 
 /// What a character is, by its category.
-#[tactic(auto, unfolding(crate::specs::Rows::character_words))]
+#[tactic(auto, unfolding(crate::specs::Prefixes::character_words))]
 fn character_words(cat: u8) -> &'static [u8]
     ensures { result.now ≡ character_words cat }
 {
@@ -126,155 +131,175 @@ fn character_words(cat: u8) -> &'static [u8]
 }
 
 /// A command's name, in an error.
-fn shown_primitive(s: &State, primitive: Primitive) -> Result<Bytes, AllocError>
-    ensures { IfOk result (λ text. text ≡ shown_primitive (mouth_of s.now).values primitive) }
+fn shown_primitive(rest: &Rest, primitive: Primitive) -> Result<Bytes, AllocError>
+    ensures { IfOk result (λ text. text ≡ shown_primitive (rest_of rest.now).values primitive) }
 {
-    let mut text = Bytes::new(s.alloc());
-    push_escaped(s, &mut text, name_of(primitive))?;
+    let mut text = Bytes::new(rest.alloc());
+    push_escaped(rest, &mut text, name_of(primitive))?;
     Ok(text)
 }
 
 /// A character, in an error.
-fn shown_character(s: &State, code: u8, cat: u8) -> Result<Bytes, AllocError>
-    ensures { IfOk result (λ text. text ≡ shown_character (mouth_of s.now).values code cat) }
+fn shown_character(rest: &Rest, code: u8, cat: u8) -> Result<Bytes, AllocError>
+    ensures { IfOk result (λ text. text ≡ shown_character (rest_of rest.now).values code cat) }
 {
-    let mut text = Bytes::from_slice(s.alloc(), b"`")?;
+    let mut text = Bytes::from_slice(rest.alloc(), b"`")?;
     text.extend_from_slice(character_words(cat))?;
-    push_printed(s, &mut text, &[code])?;
+    push_printed(rest, &mut text, &[code])?;
     text.push(b'\'')?;
     Ok(text)
 }
 
 /// A control sequence, in an error.
-fn shown_name(s: &State, token: Token) -> Result<Bytes, AllocError>
-    ensures { IfOk result (λ text. text ≡ shown_name (mouth_of s.now) token) }
+fn shown_name(rest: &Rest, token: Token) -> Result<Bytes, AllocError>
+    ensures { IfOk result (λ text. text ≡ shown_name (rest_of rest.now) token) }
 {
-    let mut text = Bytes::new(s.alloc());
-    push_name(s, &mut text, token)?;
+    let mut text = Bytes::new(rest.alloc());
+    push_name(rest, &mut text, token)?;
     Ok(text)
 }
 
 /// The text of the error about a prefix.
-fn prefix_text(s: &State, what: Bytes) -> Result<Bytes, AllocError>
+fn prefix_text(rest: &Rest, what: Bytes) -> Result<Bytes, AllocError>
     ensures { IfOk result (λ text. text ≡ prefix_text what) }
 {
-    let mut text = Bytes::from_slice(s.alloc(), b"You can't use a prefix with ")?;
+    let mut text = Bytes::from_slice(rest.alloc(), b"You can't use a prefix with ")?;
     text.append(what)?;
     Ok(text)
 }
 
 /// What takes no prefix is read again, behind an error.
-fn refuse(s: &State, what: Bytes) -> Result<Move, AllocError>
-    ensures { IfOk result (λ go. go ≡ prefix_refused what) }
+fn prefix_refused(rest: &Rest, what: Bytes) -> Result<Plan, AllocError>
+    ensures { IfOk result (λ plan. plan ≡ prefix_refused what) }
 {
-    let text = prefix_text(s, what)?;
-    fail_back(s, text, None)
+    let text = prefix_text(rest, what)?;
+    fails_back(rest.alloc(), text.as_slice(), used())
+}
+
+/// The control sequence comes next that is defined.
+fn named(naming: NameFor) -> Start
+    ensures { result ≡ named naming }
+{
+    starting(Push::Begin(Scan::Assign(AssignScan::Name(naming))))
 }
 
 /// What a definition begins, where `always` says that its name makes it global.
-fn begin_name(s: &State, always: bool, is_expanded: bool, prefixes: Prefixes) -> Move
-    ensures { result ≡ named_begun always is_expanded prefixes (mouth_of s.now).values }
+fn def_named(rest: &Rest, always: bool, is_expanded: bool, prefixes: Prefixes) -> Start
+    ensures { result ≡ def_named always is_expanded prefixes (rest_of rest.now).values }
 {
-    let is_global = is_global_def(s, prefixes.is_global, always);
-    Move::Used(Push::Begin(Scan::DefName {
+    let is_global = is_global_def_in(rest, prefixes.is_global, always);
+    named(NameFor::Def {
         prefixes: Prefixes {
             is_global,
             ..prefixes
         },
         is_expanded,
-    }))
+    })
 }
 
 /// What a definition begins.
-fn begin_definition(s: &State, kind: DefKind, prefixes: Prefixes) -> Move
-    ensures { result ≡ def_begun kind prefixes (mouth_of s.now).values }
+fn def_begun(rest: &Rest, kind: DefKind, prefixes: Prefixes) -> Start
+    ensures { result ≡ def_begun kind prefixes (rest_of rest.now).values }
 {
     match kind {
-        DefKind::Def => begin_name(s, false, false, prefixes),
-        DefKind::GDef => begin_name(s, true, false, prefixes),
-        DefKind::EDef => begin_name(s, false, true, prefixes),
-        DefKind::XDef => begin_name(s, true, true, prefixes),
+        DefKind::Def => def_named(rest, false, false, prefixes),
+        DefKind::GDef => def_named(rest, true, false, prefixes),
+        DefKind::EDef => def_named(rest, false, true, prefixes),
+        DefKind::XDef => def_named(rest, true, true, prefixes),
     }
 }
 
 /// What `\let` or `\futurelet` begins.
-fn begin_let(kind: LetKind, is_global: bool) -> Move
+fn let_begun(kind: LetKind, is_global: bool) -> Start
     ensures { result ≡ let_begun kind is_global }
 {
     match kind {
-        LetKind::Let => Move::Used(Push::Begin(Scan::LetName {
-            is_global,
-            is_future: false,
-        })),
-        LetKind::FutureLet => Move::Used(Push::Begin(Scan::LetName {
-            is_global,
-            is_future: true,
-        })),
+        LetKind::Let => named(NameFor::Let { is_global }),
+        LetKind::FutureLet => named(NameFor::FutureLet { is_global }),
     }
 }
 
+/// What `\catcode` begins: the character comes next whose category is set.
+fn catcode_begun(is_global: bool) -> Start
+    ensures { result ≡ catcode_begun is_global }
+{
+    starting(Push::Begin(Scan::Number {
+        scan: NumberScan::Start(NumberForm::Character),
+        finish: NumberFinish::Assign(AssignNumber::CatcodeOf { is_global }),
+    }))
+}
+
 /// What an assignment of a character's code begins.
-fn begin_code(kind: CodeKind, is_global: bool) -> Move
+fn code_begun(kind: CodeKind, is_global: bool) -> Start
     ensures { result ≡ code_begun kind is_global }
 {
     match kind {
-        CodeKind::Cat => Move::Used(Push::Begin(Scan::CatcodeQuote { is_global })),
-        _ => Move::Ends(End::Unbuilt),
+        CodeKind::Cat => catcode_begun(is_global),
+        _ => start_ends(End::Unbuilt),
     }
 }
 
 /// What an assignment begins that takes `\global` alone.
-#[tactic(auto, unfolding(crate::specs::Rows::simple_begun))]
-fn begin_simple(primitive: Primitive, is_global: bool) -> Move
+#[tactic(auto, unfolding(crate::specs::Prefixes::simple_begun))]
+fn simple_begun(primitive: Primitive, is_global: bool) -> Start
     ensures { result ≡ simple_begun primitive is_global }
 {
     match primitive {
-        Primitive::Let(kind) => begin_let(kind, is_global),
-        Primitive::Code(kind) => begin_code(kind, is_global),
-        _ => Move::Ends(End::Unbuilt),
+        Primitive::Let(kind) => let_begun(kind, is_global),
+        Primitive::Code(kind) => code_begun(kind, is_global),
+        _ => start_ends(End::Unbuilt),
     }
 }
 
-/// `\global`, where it is among the prefixes.
-fn left_prefixes(prefixes: Prefixes) -> Option<Scan>
-    ensures { result ≡ left_prefixes prefixes }
+/// Prefixes wait for what they are for.
+pub fn prefix_scan(prefixes: Prefixes) -> Scan
+    ensures { result ≡ prefix_scan prefixes }
 {
-    if prefixes.is_global {
-        Some(Scan::Prefix(Prefixes {
-            is_long: false,
-            is_outer: false,
-            is_protected: false,
+    Scan::Assign(AssignScan::Prefix(prefixes))
+}
+
+/// `\global`, where it is among the prefixes.
+fn left_prefixes(is_global: bool) -> Push
+    ensures { result ≡ left_prefixes is_global }
+{
+    if is_global {
+        Push::Begin(prefix_scan(Prefixes {
             is_global: true,
+            ..no_prefixes()
         }))
     } else {
-        None
+        Push::Insert(Insert::Nothing)
     }
 }
 
 /// The prefixes that only a definition takes are dropped, with an error; the command is read again.
-fn drop_irrelevant(s: &State, primitive: Primitive, prefixes: Prefixes) -> Result<Move, AllocError>
-    ensures { IfOk result (λ go. go ≡ irrelevant (shown_primitive (mouth_of s.now).values primitive) prefixes) }
+fn irrelevant(rest: &Rest, what: Bytes, prefixes: Prefixes) -> Result<Start, AllocError>
+    ensures { IfOk result (λ start. start ≡ irrelevant what prefixes) }
 {
-    let what = shown_primitive(s, primitive)?;
-    let text = prefix_text(s, what)?;
-    fail_back(s, text, left_prefixes(prefixes))
+    let text = prefix_text(rest, what)?;
+    start_fails_back(
+        rest.alloc(),
+        text.as_slice(),
+        left_prefixes(prefixes.is_global),
+    )
 }
 
 /// What an assignment begins that is no definition.
-fn begin_other(s: &State, primitive: Primitive, prefixes: Prefixes) -> Result<Move, AllocError>
-    ensures { IfOk result (λ go. go ≡ other_begun primitive prefixes (mouth_of s.now).values) }
+fn other_begun(rest: &Rest, primitive: Primitive, prefixes: Prefixes) -> Result<Start, AllocError>
+    ensures { IfOk result (λ start. start ≡ other_begun primitive prefixes (rest_of rest.now).values) }
 {
     if is_for_definitions(prefixes) {
-        drop_irrelevant(s, primitive, prefixes)
+        let what = shown_primitive(rest, primitive)?;
+        irrelevant(rest, what, prefixes)
     } else {
-        let is_global = is_global(s, prefixes.is_global);
-        Ok(begin_simple(primitive, is_global))
+        let is_global = is_global_in(rest, prefixes.is_global);
+        Ok(simple_begun(primitive, is_global))
     }
 }
 
 /// The definition that a command is, if it is one.
 #[tactic(auto, unfolding(crate::specs::Assignments::definition_of))]
-fn definition(primitive: Primitive) -> Option<DefKind>
+fn definition_of(primitive: Primitive) -> Option<DefKind>
     ensures { result ≡ definition_of primitive }
 {
     match primitive {
@@ -284,96 +309,87 @@ fn definition(primitive: Primitive) -> Option<DefKind>
 }
 
 /// What an assignment begins, behind these prefixes. Of the assignments that are to come it ends the job.
-#[tactic(auto, unfolding(crate::specs::Rows::assignment_begun))]
-pub fn begin(s: &State, primitive: Primitive, prefixes: Prefixes) -> Result<Move, AllocError>
-    ensures { IfOk result (λ go. go ≡ assignment_begun primitive prefixes (mouth_of s.now).values) }
+#[tactic(auto, unfolding(crate::specs::Prefixes::assignment_begun))]
+pub fn begin(rest: &Rest, primitive: Primitive, prefixes: Prefixes) -> Result<Start, AllocError>
+    ensures { IfOk result (λ start. start ≡ assignment_begun primitive prefixes (rest_of rest.now).values) }
 {
-    match definition(primitive) {
-        Some(kind) => Ok(begin_definition(s, kind, prefixes)),
-        None => begin_other(s, primitive, prefixes),
+    match definition_of(primitive) {
+        Some(kind) => Ok(def_begun(rest, kind, prefixes)),
+        None => other_begun(rest, primitive, prefixes),
     }
 }
 
 /// An assignment behind prefixes; another command takes none.
-fn begin_prefixed(s: &State, prefixes: Prefixes, primitive: Primitive) -> Result<Move, AllocError>
-    ensures { IfOk result (λ go. go ≡ prefixed_by prefixes primitive (mouth_of s.now).values) }
+fn prefixed(rest: &Rest, prefixes: Prefixes, primitive: Primitive) -> Result<Plan, AllocError>
+    ensures { IfOk result (λ plan. plan ≡ prefixed prefixes primitive (rest_of rest.now).values) }
 {
     if is_assignment(primitive) {
-        begin(s, primitive, prefixes)
+        Ok(plan_of(begin(rest, primitive, prefixes)?))
     } else {
-        let what = shown_primitive(s, primitive)?;
-        refuse(s, what)
+        let what = shown_primitive(rest, primitive)?;
+        prefix_refused(rest, what)
     }
 }
 
 /// What a command is to the prefixes before it.
 #[tactic(auto, unfolding(crate::specs::Assignments::follower_of))]
-fn follower(primitive: Primitive) -> Behind
+fn follower_of(primitive: Primitive) -> Follower
     ensures { result ≡ follower_of primitive }
 {
     match primitive {
-        Primitive::Relax => Behind::Nothing,
-        Primitive::Prefix(kind) => Behind::Prefix(kind),
-        _ => Behind::Command,
+        Primitive::Relax => Follower::Nothing,
+        Primitive::Prefix(kind) => Follower::Prefix(kind),
+        _ => Follower::Command,
     }
 }
 
 /// A command behind prefixes.
-fn command_behind_prefixes(
-    s: &State,
-    prefixes: Prefixes,
-    primitive: Primitive,
-) -> Result<Move, AllocError>
-    ensures { IfOk result (λ go. go ≡ command_behind_prefixes prefixes primitive (mouth_of s.now).values) }
+fn behind_by(rest: &Rest, prefixes: Prefixes, primitive: Primitive) -> Result<Plan, AllocError>
+    ensures { IfOk result (λ plan. plan ≡ behind_by (follower_of primitive) prefixes primitive (rest_of rest.now).values) }
 {
-    match follower(primitive) {
-        Behind::Nothing => Ok(Move::Stay(Scan::Prefix(prefixes), Push::Nothing)),
-        Behind::Prefix(kind) => Ok(Move::Stay(
-            Scan::Prefix(with_prefix(kind, prefixes)),
-            Push::Nothing,
-        )),
-        Behind::Command => begin_prefixed(s, prefixes, primitive),
+    match follower_of(primitive) {
+        Follower::Nothing => Ok(quiet(Move::Stay(prefix_scan(prefixes)))),
+        Follower::Prefix(kind) => Ok(quiet(Move::Stay(prefix_scan(with_prefix(kind, prefixes))))),
+        Follower::Command => prefixed(rest, prefixes, primitive),
     }
 }
 
 /// A character behind prefixes.
-fn character_behind_prefixes(
-    s: &State,
-    prefixes: Prefixes,
-    code: u8,
-    cat: u8,
-) -> Result<Move, AllocError>
-    ensures { IfOk result (λ go. go ≡ character_behind_prefixes prefixes code cat (mouth_of s.now).values) }
+fn character_behind(rest: &Rest, prefixes: Prefixes, code: u8, cat: u8) -> Result<Plan, AllocError>
+    ensures { IfOk result (λ plan. plan ≡ character_behind prefixes code cat (rest_of rest.now).values) }
 {
     if cat == 10 {
-        Ok(Move::Stay(Scan::Prefix(prefixes), Push::Nothing))
+        Ok(quiet(Move::Stay(prefix_scan(prefixes))))
     } else {
-        let what = shown_character(s, code, cat)?;
-        refuse(s, what)
+        let what = shown_character(rest, code, cat)?;
+        prefix_refused(rest, what)
     }
 }
 
-fn refuse_name(s: &State, token: Token) -> Result<Move, AllocError>
-    ensures { IfOk result (λ go. go ≡ prefix_refused (shown_name (mouth_of s.now) token)) }
+/// What is no command takes no prefix.
+fn name_refused(rest: &Rest, token: Token) -> Result<Plan, AllocError>
+    ensures { IfOk result (λ plan. plan ≡ prefix_refused (shown_name (rest_of rest.now) token)) }
 {
-    let what = shown_name(s, token)?;
-    refuse(s, what)
+    let what = shown_name(rest, token)?;
+    prefix_refused(rest, what)
 }
 
 /// A token behind prefixes.
-#[tactic(auto, unfolding(crate::specs::Rows::prefix_row))]
-pub(crate) fn behind_prefixes(
-    s: &State,
+#[tactic(auto, unfolding(crate::specs::Prefixes::prefix_row))]
+pub(crate) fn prefix_row(
+    rest: &Rest,
     prefixes: Prefixes,
     token: Token,
     meaning: &Meaning,
-) -> Result<Move, AllocError>
-    ensures { IfOk result (λ go. go ≡ prefix_row prefixes token meaning.now (mouth_of s.now)) }
+) -> Result<Plan, AllocError>
+    ensures { IfOk result (λ plan. plan ≡ prefix_row prefixes token meaning.now (rest_of rest.now)) }
 {
     match meaning {
-        Meaning::Char { code, cat } => character_behind_prefixes(s, prefixes, *code, *cat),
-        Meaning::Primitive(primitive) => command_behind_prefixes(s, prefixes, *primitive),
-        Meaning::Undefined => refuse_name(s, token),
-        Meaning::Macro(_) => refuse_name(s, token),
+        Meaning::Char { code, cat } => character_behind(rest, prefixes, *code, *cat),
+        Meaning::Primitive(primitive) => behind_by(rest, prefixes, *primitive),
+        Meaning::Undefined => name_refused(rest, token),
+        Meaning::Macro(_) => name_refused(rest, token),
+        Meaning::Unexpanded => Ok(quiet(Move::Stay(prefix_scan(prefixes)))),
+        Meaning::EndTemplate => name_refused(rest, token),
     }
 }

@@ -1,447 +1,356 @@
--- Each turn ends the job, reports an error, takes a step, or makes the weight of the mouth smaller.
-use Rattle.std.proofs.Common.{◌≡◌, ℕ, zero, suc, ℤ, ◌+◌, ◌-◌, ◌<◌, ◌≤◌, inl, inr, ◌==◌, Bool, true, false, List, [], ◌∷◌, ◌++◌, Option, Some, None, refl, sym, subst, ap, arith, if◌then◌else◌}
+-- EACH TURN goes on: the central lemmas hold for any plan, any start and any finisher, so no row owes anything.
+use Rattle.std.proofs.Common.{◌≡◌, ℕ, zero, suc, ◌+◌, ◌*◌, ◌<◌, ◌≤◌, inl, inr, ◌⊎◌, Bool, true, false, List, [], ◌∷◌, length, Option, Some, None, refl, sym, subst, arith}
 use Rattle.etx_matter.specs.declared.token.Token.{Token}
-use Rattle.etx_matter.specs.declared.token.Token.TheVariants.{Char, Name, Param}
-use Rattle.etx_matter.specs.declared.end.End.TheVariants.{Unbuilt, Capacity}
-use Rattle.etx_matter.specs.declared.end.Limit.TheVariants.{Names}
-use Rattle.etx_lexer.specs.declared.lexed.Lexed.{Lexed}
-use Rattle.etx_lexer.specs.declared.lexed.Lexed.TheVariants as lexed
-use Rattle.etx_input.specs.Files.{FileState, got_of as file_got}
-use Rattle.etx_input.specs.Levels.{Given, InputState, with_list, list_given, file_given, given_in, given_of}
+use Rattle.etx_matter.specs.declared.deed.Deed.{Deed}
+use Rattle.etx_matter.specs.declared.deed.Deed.TheVariants as deed
+use Rattle.etx_input.specs.Levels.{with_list}
 use Rattle.etx_input.specs.declared.origin.Origin.{Origin}
-use Rattle.etx_input.specs.declared.origin.Origin.TheVariants.{Fresh, Back, Unexpanded}
-use Rattle.etx_input.specs.declared.level.Level.{Level}
-use Rattle.etx_input.specs.declared.level.Level.TheVariants as level
-use Rattle.etx_input.specs.declared.levels.Next.{Next}
-use Rattle.etx_input.specs.declared.levels.Next.TheVariants as next
-use Rattle.etx_prims.specs.declared.command.Primitive.{Primitive}
-use Rattle.etx_prims.specs.declared.command.Primitive.TheVariants as prims
-use Rattle.etx_prims.specs.declared.expansion.ExpandKind.{ExpandKind}
-use Rattle.etx_prims.specs.declared.expansion.ExpandKind.TheVariants as expands
-use Rattle.etx_prims.specs.declared.expansion.ConvertKind.{ConvertKind}
-use Rattle.etx_prims.specs.declared.expansion.ConvertKind.TheVariants as converts
-use Rattle.etx_prims.specs.declared.parameters.IntParam.TheVariants.{EndLineChar}
-use Rattle.etx_prims.specs.Lookup.{primitive_named}
-use Rattle.etx_macros.specs.declared.fault.Fed.{Fed}
-use Rattle.etx_macros.specs.declared.fault.Fed.TheVariants as says
-use Rattle.etx_macros.specs.State.{MatcherState}
-use Rattle.etx_macros.specs.Feeding.{fed_of, is_extra, started}
-use Rattle.etx_macros.specs.Substituting.{substituted}
-use Rattle.etx_state.specs.Macros.{MacroState}
-use Rattle.etx_state.specs.declared.key.Meaning.{Meaning}
-use Rattle.etx_state.specs.declared.key.Meaning.TheVariants as means
-use Rattle.etx_state.specs.declared.scan.Scan.{Scan}
-use Rattle.etx_state.specs.declared.scan.Scan.TheVariants as scan
+use Rattle.etx_input.specs.declared.origin.Origin.TheVariants as origin
+use Rattle.etx_state.specs.declared.scan.ExpansionScan.{ExpansionScan}
+use Rattle.etx_state.specs.declared.scan.NumberScan.{NumberScan}
+use Rattle.etx_state.specs.declared.scan.NumberFinish.{NumberFinish}
+use Rattle.etx_state.specs.declared.scan.OpenText.{OpenText}
+use Rattle.etx_state.specs.declared.scan.TextFinish.{TextFinish}
+use Rattle.etx_state.specs.declared.scan.Value.{Value}
 use Rattle.etx_state.specs.declared.scan.Keeper.{Keeper}
 use Rattle.etx_state.specs.declared.scan.Keeper.TheVariants as keeper
+use Rattle.etx_state.specs.declared.scan.Scan.{Scan}
+use Rattle.etx_state.specs.declared.scan.Scan.TheVariants as scan
 use Rattle.etx_state.specs.declared.scan.Entry.{Entry}
 use Rattle.etx_state.specs.declared.scan.Entry.TheVariants as entry
-use Rattle.etx_state.specs.Values.{after as noted_after}
-use Rattle.etx_state.specs.Naming.{has_name}
-use Rattle.etx_state.specs.Reading.{category_in, int_in, meaning_in, token_meaning}
-use Rattle.etx_state.specs.States.{Mouth, with_input, with_scans, named, with_name, number_of, has_room, given, group_ended}
-use Rattle.etx_expand.specs.declared.get.Watch.{Watch}
-use Rattle.etx_expand.specs.declared.get.Watch.TheVariants as watch
+use Rattle.etx_state.specs.Rests.{RestState}
+use Rattle.etx_state.specs.Mouths.{Mouth, with_rest}
+use Rattle.etx_expand.specs.declared.meaning.Expandable.{Expandable}
+use Rattle.etx_expand.specs.declared.meaning.Reading.{Reading}
+use Rattle.etx_expand.specs.declared.meaning.Reading.TheVariants as reading_as
 use Rattle.etx_expand.specs.declared.get.Got.{Got}
 use Rattle.etx_expand.specs.declared.get.Got.TheVariants as got
-use Rattle.etx_expand.specs.declared.plan.Push.{Push}
-use Rattle.etx_expand.specs.declared.plan.Push.TheVariants.{Nothing, Begin, Text, GroupEnd, Say}
+use Rattle.etx_expand.specs.declared.fetch.Idle.{Idle}
+use Rattle.etx_expand.specs.declared.fetch.Idle.TheVariants as idle
+use Rattle.etx_expand.specs.declared.fetch.Fetched.{Fetched}
+use Rattle.etx_expand.specs.declared.fetch.Fetched.TheVariants as fetched
+use Rattle.etx_expand.specs.declared.plan.Insert.{Insert}
+use Rattle.etx_expand.specs.declared.plan.Insert.TheVariants as insert
+use Rattle.etx_expand.specs.declared.plan.Failure.{Failure}
+use Rattle.etx_expand.specs.declared.plan.Did.{Did}
+use Rattle.etx_expand.specs.declared.plan.Did.TheVariants as did
 use Rattle.etx_expand.specs.declared.plan.Move.{Move}
 use Rattle.etx_expand.specs.declared.plan.Move.TheVariants as move
-use Rattle.etx_expand.specs.declared.plan.Value.TheVariants.{List as Whole}
+use Rattle.etx_expand.specs.declared.plan.Push.{Push}
+use Rattle.etx_expand.specs.declared.plan.Push.TheVariants as push
+use Rattle.etx_expand.specs.declared.plan.Then.{Then}
+use Rattle.etx_expand.specs.declared.plan.Then.TheVariants as afterwards
 use Rattle.etx_expand.specs.declared.plan.Turned.{Turned}
 use Rattle.etx_expand.specs.declared.plan.Turned.TheVariants as turned
-use Rattle.etx_expand.specs.declared.row.Brace.{Brace}
-use Rattle.etx_expand.specs.declared.row.Brace.TheVariants.{Left, Right, Neither}
-use Rattle.etx_expand.specs.Moves.{After, after, moved, made, outcome, pushed, charged, entered, scanning, put_back, read_next}
-use Rattle.etx_expand.specs.Getting.{getting, forbidden, admitted, watch_of, token_got, name_got, lexed_got, next_got, file_ended, got_of}
-use Rattle.etx_expand.specs.Meanings.{is_expandable, is_outer, is_expanded_by, reading_of}
-use Rattle.etx_expand.specs.Measure.{tokens_weight, levels_weight, scan_weight, entry_weight, stack_weight, weight, Pays, Goes}
-use Rattle.etx_expand.specs.Printing.{spelled, character_tokens}
-use Rattle.etx_expand.specs.Turn.{is_plain, primitive_begun, begun, relaxed, name_made, name_row, name_token, named_turn, name_end_turn, cs_name_turn, text_brace_row, text_goes_on, text_by, text_turn, brace_of, handed, scan_turn, kept_turn, scan_got, kept_got, say_turn, entry_turn, turn_of}
-use Rattle.etx_expand.specs.Calls.{extra_row, refused_row, copies, fed_turn, call_turn, cut_off}
-use Rattle.etx_expand.proofs.Gotten.{Stays, with_name_stays, got_charges}
+use Rattle.etx_expand.specs.Answers.{Planned, Begun, Finished, reading}
+use Rattle.etx_expand.specs.Moves.{After, after, charged, read_next, put_back, entered, scanning, most_stages, inserted, back_if, insert_if, failed, beside, beside_value, error_deed, turned_by, made, planned_turn, pushed, begun_turn, more, followed, finished_turn}
+use Rattle.etx_expand.specs.Getting.{Getting, watch_by, watch_of, got_of}
+use Rattle.etx_expand.specs.Calls.{cut_off}
+use Rattle.etx_expand.specs.Meanings.{reading_of, keeper_reading, wanted}
+use Rattle.etx_expand.specs.Measure.{turn_weight, say_weight, given_weight, scan_weight, stage_weight, begun_weight, back_weight, held_weight, tokens_weight, levels_weight, entry_weight, weight, Steps, PaidFor, PaysFor, Falls, FallsBy, Comes, Goes}
+use Rattle.etx_expand.specs.Turn.{Fetching, wanted_as, fetched_as, fetched_by, scan_fetched, keeper_fetched, main_fetched, expanded, expanded_turn, idle_turn, expansion_row, expansion_token, number_token, text_token, kept_idle, kept_with, expand_after_turn, due_turn, say_turn}
+use Rattle.etx_expand.specs.Numbers.{number_row}
+use Rattle.etx_expand.specs.Texts.{text_row}
+use Rattle.etx_state.specs.declared.key.Meaning.{Meaning}
+use Rattle.etx_expand.proofs.Gotten.{PaidGot, Pays, got_pays}
 
--- ---- what the input gives
+-- ---- what is read next weighs nothing, but for tokens that were put back
 
-abbrev gift_weight : Next → ℕ
-gift_weight (next.Listed t origin) = tokens_weight origin (t ∷ [])
-gift_weight (next.Lexed x) = 0
-gift_weight next.FileEnd = 64
-gift_weight next.Over = 0
-
-list_weighs : (ts : List Token) (o : Origin) (ls : List Level) (left : ℕ) (more : Given) → levels_weight more.input.levels + gift_weight more.next ≤ levels_weight ls
-    → levels_weight (list_given ts o ls left more).input.levels + gift_weight (list_given ts o ls left more).next ≤ tokens_weight o ts + levels_weight ls
-list_weighs [] Fresh ls left more is = omega (arith, is)
-list_weighs [] Back ls left more is = omega (arith, is)
-list_weighs [] Unexpanded ls left more is = omega (arith, is)
-list_weighs (t ∷ []) o ls left more is = omega arith
-list_weighs (t ∷ u ∷ ts) Fresh ls left more is = omega arith
-list_weighs (t ∷ u ∷ ts) Back ls left more is = omega arith
-list_weighs (t ∷ u ∷ ts) Unexpanded ls left more is = omega arith
-
-file_weighs : (x : Option Lexed) (f : FileState) (ls : List Level) (left : ℕ) → levels_weight (file_given x f ls left).input.levels + gift_weight (file_given x f ls left).next ≤ 64 + levels_weight ls
-file_weighs None f ls left = omega arith
-file_weighs (Some x) f ls left = omega arith
-
-given_weighs : (cats : ℕ → ℕ) (endline : ℤ) (ls : List Level) (left : ℕ) → levels_weight (given_in cats endline ls left).input.levels + gift_weight (given_in cats endline ls left).next ≤ levels_weight ls
-given_weighs cats endline [] left = omega arith
-given_weighs cats endline (level.List l ∷ ls) left = list_weighs l.rest l.origin ls left (given_in cats endline ls left) (given_weighs cats endline ls left)
-given_weighs cats endline (level.File f ∷ ls) left = file_weighs (file_got cats endline f).lexed (file_got cats endline f).file ls left
-
-mouth_weighs : (m : Mouth) → levels_weight (given m).input.levels + gift_weight (given m).next ≤ levels_weight m.input.levels
-unfolding given_of
-mouth_weighs m = given_weighs (category_in m.values) (int_in m.values EndLineChar) m.input.levels m.input.left
-
--- ---- getting
-
--- a token is paid for, and else the turn goes
-abbrev GoesGot : Got → Mouth → Mouth → Type 0
-GoesGot (got.Token t mm) old new = Pays 64 old new
-GoesGot (got.Over d) old new = Goes d old new
-GoesGot (got.Cut text) old new = Unit {0}
-
-admitted_goes : (w : Watch) (t : Token) (mm : Meaning) (old m : Mouth) → Pays 64 old m → GoesGot (admitted w t mm m).got old (admitted w t mm m).now
-admitted_goes watch.Nothing t mm old m paid = paid
-admitted_goes (watch.Defining name) t mm old m paid = by (is_outer mm)
-  where
-    by : (b : Bool) → GoesGot (if b then forbidden (watch.Defining name) t m else getting m (got.Token t mm)).got old (if b then forbidden (watch.Defining name) t m else getting m (got.Token t mm)).now
-    by true = tt
-    by false = paid
-admitted_goes (watch.Absorbing name) t mm old m paid = by (is_outer mm)
-  where
-    by : (b : Bool) → GoesGot (if b then forbidden (watch.Absorbing name) t m else getting m (got.Token t mm)).got old (if b then forbidden (watch.Absorbing name) t m else getting m (got.Token t mm)).now
-    by true = tt
-    by false = paid
-admitted_goes (watch.Matching name) t mm old m paid = by (is_outer mm)
-  where
-    by : (b : Bool) → GoesGot (if b then forbidden (watch.Matching name) t m else getting m (got.Token t mm)).got old (if b then forbidden (watch.Matching name) t m else getting m (got.Token t mm)).now
-    by true = tt
-    by false = paid
-
-token_goes : (t : Token) (o : Origin) (old m : Mouth) → Pays 64 old m → GoesGot (token_got t o m).got old (token_got t o m).now
-unfolding token_got
-token_goes t Fresh old m paid = admitted_goes (watch_of m.scans) t (token_meaning m.values t) old m paid
-token_goes t Back old m paid = admitted_goes (watch_of m.scans) t (token_meaning m.values t) old m paid
-token_goes t Unexpanded old m paid = paid
-
-name_goes : (name : List ℕ) (old m : Mouth) → old.spent < m.spent → GoesGot (name_got name m).got old (name_got name m).now
-unfolding name_got
-name_goes name old m more = by (has_room name m)
-  where
-    known : Stays m (with_name name m)
-    known = with_name_stays name m
-
-    by : (b : Bool) → GoesGot (if b then token_got (Name (record { 0 = number_of name m })) Fresh (with_name name m) else getting m (got.Over (turned.End (Capacity Names)))).got old (if b then token_got (Name (record { 0 = number_of name m })) Fresh (with_name name m) else getting m (got.Over (turned.End (Capacity Names)))).now
-    by true = token_goes (Name (record { 0 = number_of name m })) Fresh old (with_name name m) (inl (omega (arith, known.spent, more)))
-    by false = tt
-
-lexed_goes : (x : Lexed) (old m : Mouth) → m.spent ≡ old.spent → GoesGot (lexed_got x m).got old (lexed_got x m).now
-unfolding lexed_got
-lexed_goes (lexed.Char code cat) old m same = token_goes (Char code cat) Fresh old (charged 1 m) (inl (omega (arith, same)))
-lexed_goes (lexed.Name name) old m same = name_goes name old (charged 1 m) (omega (arith, same))
-lexed_goes (lexed.Invalid code) old m same = tt
-lexed_goes lexed.LineEnd old m same = inl (omega (arith, same))
-
-ended_goes : (w : Watch) (old m : Mouth) → Pays 1 old m → GoesGot (file_ended w m).got old (file_ended w m).now
-ended_goes watch.Nothing old m paid = paid
-ended_goes (watch.Defining name) old m paid = tt
-ended_goes (watch.Absorbing name) old m paid = tt
-ended_goes (watch.Matching name) old m paid = tt
-
-next_goes : (x : Next) (i : InputState) (m : Mouth) → levels_weight i.levels + gift_weight x ≤ levels_weight m.input.levels → GoesGot (next_got x (with_input i m)).got m (next_got x (with_input i m)).now
-next_goes (next.Listed t Fresh) i m is = token_goes t Fresh m (charged 1 (with_input i m)) (inl (omega arith))
-next_goes (next.Listed t Back) i m is = token_goes t Back m (charged 0 (with_input i m)) (inr (omega arith, omega (arith, is)))
-next_goes (next.Listed t Unexpanded) i m is = token_goes t Unexpanded m (charged 0 (with_input i m)) (inr (omega arith, omega (arith, is)))
-next_goes (next.Lexed x) i m is = lexed_goes x m (with_input i m) refl
-next_goes next.FileEnd i m is = ended_goes (watch_of m.scans) m (with_input i m) (inr (refl, omega (arith, is)))
-next_goes next.Over i m is = tt
-
-got_goes : (m : Mouth) → GoesGot (got_of m).got m (got_of m).now
-unfolding got_of
-got_goes m = next_goes (given m).next (given m).input m (mouth_weighs m)
-
--- ---- moves
-
--- the weight grew by this much at most, and no step was taken
-pub record Grows (n : ℕ) (old new : Mouth) : Type 0 where
+-- no step was taken, and this much was added at most
+pub record Adds (most : ℕ) (old new : Mouth) : Type 0 where
   pub spent : new.spent ≡ old.spent
-  pub weight : weight new ≤ weight old + n
+  pub weight : weight new ≤ weight old + most
 
--- what was paid is enough for what grew
-pub enough : (n k : ℕ) (old m new : Mouth) → Pays (n + k) old m → Grows n m new → Pays k old new
-enough n k old m new (inl more) grows = inl (omega (arith, grows.spent, more))
-enough n k old m new (inr less) grows = inr (omega (arith, grows.spent, less.0), omega (arith, grows.weight, less.1))
-
-pub ended_list : (m : Mouth) (ts : List Token) → Grows 0 m (read_next Fresh ts m)
+next_adds : (ts : List Token) (m : Mouth) → Adds 0 m (read_next origin.Fresh ts m)
 unfolding with_list
-ended_list m [] = record { spent = refl; weight = omega arith }
-ended_list m (t ∷ ts) = record { spent = refl; weight = omega arith }
+next_adds [] m = record { spent = refl; weight = omega arith }
+next_adds (t ∷ ts) m = record { spent = refl; weight = omega arith }
 
-group_grows : (m : Mouth) → Grows 0 m (group_ended m)
-unfolding group_ended
-group_grows m = let h = ended_list m (noted_after m.values) in record { spent = refl; weight = omega (arith, h.weight) }
+pub back_adds : (t : Token) (m : Mouth) → Adds back_weight m (put_back t m)
+unfolding with_list
+back_adds t m = record { spent = refl; weight = omega arith }
 
-scan_small : (f : Scan) → scan_weight f ≤ 2
-scan_small scan.Command = omega arith
-scan_small _ = omega arith
+kept_adds : (t : Token) (m : Mouth) → Adds back_weight m (read_next origin.Unexpanded (t ∷ []) m)
+unfolding with_list
+kept_adds t m = record { spent = refl; weight = omega arith }
 
-push_grows : (p : Push) (m : Mouth) → Grows 2 m (pushed p m)
+inserted_adds : (i : Insert) (m : Mouth) → Adds 0 m (inserted i m)
+unfolding inserted
+inserted_adds insert.Nothing m = record { spent = refl; weight = omega arith }
+inserted_adds (insert.Token t) m = next_adds (t ∷ []) m
+inserted_adds (insert.Text ts) m = next_adds ts m
+
+back_if_spent : (b : Bool) (t : Token) (m : Mouth) → (back_if b t m).spent ≡ m.spent
+back_if_spent true t m = refl
+back_if_spent false t m = refl
+
+pub insert_if_adds : (o : Option Token) (m : Mouth) → Adds 0 m (insert_if o m)
+insert_if_adds None m = record { spent = refl; weight = omega arith }
+insert_if_adds (Some t) m = next_adds (t ∷ []) m
+
+-- ---- what is done beside
+
+beside_spent : (t : Token) (d : Did) (m : Mouth) → (beside t d m).spent ≡ m.spent
+unfolding beside
+beside_spent t did.Nothing m = refl
+beside_spent t (did.Deed d) m = refl
+beside_spent t (did.Error f) m = let h = insert_if_adds f.inserted (back_if f.is_back t m) in let k = back_if_spent f.is_back t m in cc (h.spent, k)
+beside_spent t (did.End e) m = refl
+
+beside_value_spent : (d : Did) (m : Mouth) → (beside_value d m).spent ≡ m.spent
+unfolding beside_value
+beside_value_spent did.Nothing m = refl
+beside_value_spent (did.Deed d) m = refl
+beside_value_spent (did.Error f) m = (insert_if_adds f.inserted m).spent
+beside_value_spent (did.End e) m = refl
+
+falls_less : (n : ℕ) (old new : Mouth) → n ≤ turn_weight → Falls turn_weight old new → Falls n old new
+falls_less n old new h (inl forth) = inl forth
+falls_less n old new h (inr less) = inr (less.0, omega (arith, less.1, h))
+
+deed_falls : (d : Deed) (old new : Mouth) → Falls turn_weight old new → FallsBy d old new
+deed_falls (deed.Fresh a) old new h = falls_less 1 old new (omega arith) h
+deed_falls (deed.Space a) old new h = falls_less 1 old new (omega arith) h
+deed_falls (deed.Text b a) old new h = falls_less 1 old new (omega arith) h
+deed_falls (deed.Error b l a) old new h = tt
+deed_falls (deed.Create n) old new h = falls_less 1 old new (omega arith) h
+
+beside_comes : (t : Token) (d : Did) (old m : Mouth) → Falls turn_weight old m → Comes (turned_by d m) old (beside t d m)
+unfolding beside turned_by
+beside_comes t did.Nothing old m h = falls_less 1 old m (omega arith) h
+beside_comes t (did.Deed d) old m h = deed_falls d old m h
+beside_comes t (did.Error f) old m h = tt
+beside_comes t (did.End e) old m h = tt
+
+beside_value_comes : (d : Did) (old m : Mouth) → Falls turn_weight old m → Comes (turned_by d m) old (beside_value d m)
+unfolding beside_value turned_by
+beside_value_comes did.Nothing old m h = falls_less 1 old m (omega arith) h
+beside_value_comes (did.Deed d) old m h = deed_falls d old m h
+beside_value_comes (did.Error f) old m h = tt
+beside_value_comes (did.End e) old m h = tt
+
+-- what was made is done, with what is done beside
+beside_goes : (t : Token) (d : Did) (old m : Mouth) → Falls turn_weight old m → Steps 2 old m → Goes old (after (beside t d m) (turned_by d m))
+beside_goes t d old m h s = record {
+  comes = beside_comes t d old m h;
+  forth = omega (arith, beside_spent t d m, s.forth);
+  few = omega (arith, beside_spent t d m, s.few);
+}
+
+beside_value_goes : (d : Did) (old m : Mouth) → Falls turn_weight old m → Steps 2 old m → Goes old (after (beside_value d m) (turned_by d m))
+beside_value_goes d old m h s = record {
+  comes = beside_value_comes d old m h;
+  forth = omega (arith, beside_value_spent d m, s.forth);
+  few = omega (arith, beside_value_spent d m, s.few);
+}
+
+-- ---- any plan
+
+-- a step was taken, or less was added than was there to be added
+abbrev Fits : ℕ → Mouth → Mouth → Type 0
+Fits most old new = (new.spent ≡ old.spent + 1) ⊎ ((new.spent ≡ old.spent) × (weight new + turn_weight ≤ weight old + most))
+
+abbrev scan_worth : ℕ → ℕ
+scan_worth left = scan_weight + stage_weight * left
+
+made_fits : (left : ℕ) (t : Token) (go : Move) (m : Mouth) → Fits (back_weight + scan_worth left) m (made left t go m)
+unfolding made
+made_fits left t (move.Used i) m = let h = inserted_adds i m in inr (h.spent, omega (arith, h.weight))
+made_fits left t (move.Begin s) m = inr (refl, omega arith)
+made_fits left t (move.Stay s) m = inr (refl, omega arith)
+made_fits left t (move.Copied s) m = inl refl
+made_fits left t (move.CopiedLast i) m = let h = inserted_adds i m in inl (omega (arith, h.spent))
+made_fits left t move.Back m = let h = back_adds t m in inr (h.spent, omega (arith, h.weight))
+made_fits left t (move.Gives v) m = inr (refl, omega arith)
+made_fits left t (move.GivesBack v) m = let h = back_adds t m in inr (h.spent, omega (arith, h.weight))
+made_fits left t (move.Hold by) m = inr (refl, omega arith)
+made_fits left t move.Unexpanded m = let h = kept_adds t m in inr (h.spent, omega (arith, h.weight))
+
+-- a token was paid for, and what was made of it fits
+fits_falls : (n k : ℕ) (old m new : Mouth) → Falls n old m → Steps 1 old m → Fits (n + k) m new → (top : Mouth) → top.spent ≡ old.spent → weight top ≡ weight old + k → Falls turn_weight top new
+fits_falls n k old m new (inl paid) s (inl one) top same is = inl (omega (arith, one, paid, same))
+fits_falls n k old m new (inl paid) s (inr f) top same is = inl (omega (arith, f.0, paid, same))
+fits_falls n k old m new (inr paid) s (inl one) top same is = inl (omega (arith, one, paid.0, same))
+fits_falls n k old m new (inr paid) s (inr f) top same is = inr (omega (arith, f.0, paid.0, same), omega (arith, f.1, paid.1, is))
+
+fits_steps : (n : ℕ) (old m new : Mouth) → Steps 1 old m → Fits n m new → (top : Mouth) → top.spent ≡ old.spent → Steps 2 top new
+fits_steps n old m new s (inl one) top same = record { forth = omega (arith, one, s.forth, same); few = omega (arith, one, s.few, same) }
+fits_steps n old m new s (inr f) top same = record { forth = omega (arith, f.0, s.forth, same); few = omega (arith, f.0, s.few, same) }
+
+-- a row changes the rest, which takes no step
+rest_steps : (r : RestState) (n : ℕ) (old m : Mouth) → Steps n old m → Steps n old (with_rest r m)
+rest_steps r n old m s = record { forth = s.forth; few = s.few }
+
+fits_alone : (n : ℕ) (old new : Mouth) → Fits n old new → Fits (0 + n) old new
+fits_alone n old new (inl one) = inl one
+fits_alone n old new (inr f) = inr (f.0, omega (arith, f.1))
+
+-- WHATEVER A SCAN'S ROW HAS PLANNED, the turn goes on
+pub planned_goes : (left : ℕ) (s : Scan) (t : Token) (p : Planned) (old m : Mouth) → Falls back_weight old m → Steps 1 old m → Goes (scanning left s old) (planned_turn left t p m)
+planned_goes left s t p old m paid steps =
+    let fits = made_fits left t p.plan.go (with_rest p.rest m) in
+    beside_goes t p.plan.did (scanning left s old) (made left t p.plan.go (with_rest p.rest m))
+    (fits_falls back_weight (scan_worth left) old (with_rest p.rest m) (made left t p.plan.go (with_rest p.rest m)) paid (rest_steps p.rest 1 old m steps) fits (scanning left s old) refl (omega arith))
+    (fits_steps (back_weight + scan_worth left) old (with_rest p.rest m) (made left t p.plan.go (with_rest p.rest m)) (rest_steps p.rest 1 old m steps) fits (scanning left s old) refl)
+
+-- ---- any start
+
+pushed_fits : (p : Push) (m : Mouth) → Fits (back_weight + 0) m (pushed p m)
 unfolding pushed
-push_grows Nothing m = record { spent = refl; weight = omega arith }
-push_grows (Begin f) m = let h = scan_small f in record { spent = refl; weight = omega (arith, h) }
-push_grows (Text ts) m = let h = ended_list m ts in record { spent = refl; weight = omega (arith, h.weight) }
-push_grows GroupEnd m = let h = group_grows m in record { spent = h.spent; weight = omega (arith, h.weight) }
-push_grows (Say text) m = record { spent = refl; weight = omega arith }
+pushed_fits (push.Insert i) m = let h = inserted_adds i m in inr (h.spent, omega (arith, h.weight))
+pushed_fits (push.Begin s) m = inr (refl, omega arith)
 
-pub back_grows : (t : Token) (m : Mouth) → Grows 64 m (put_back t m)
-unfolding with_list
-back_grows t m = record { spent = refl; weight = omega arith }
+-- WHATEVER A TOKEN BEGINS, the turn goes on
+pub begun_goes : (t : Token) (b : Begun) (old m : Mouth) → Falls back_weight old m → Steps 1 old m → Goes old (begun_turn t b m)
+begun_goes t b old m paid steps =
+    let fits = pushed_fits b.start.push (with_rest b.rest m) in
+    beside_goes t b.start.did old (pushed b.start.push (with_rest b.rest m))
+    (fits_falls back_weight 0 old (with_rest b.rest m) (pushed b.start.push (with_rest b.rest m)) paid (rest_steps b.rest 1 old m steps) fits old refl (omega arith))
+    (fits_steps (back_weight + 0) old (with_rest b.rest m) (pushed b.start.push (with_rest b.rest m)) (rest_steps b.rest 1 old m steps) fits old refl)
 
-kept_grows : (t : Token) (m : Mouth) → Grows 64 m (read_next Unexpanded (t ∷ []) m)
-unfolding with_list
-kept_grows t m = record { spent = refl; weight = omega arith }
+-- ---- any finisher
 
--- a move goes where a scan and a token that waited were taken off
-pub moved_goes : (t : Token) (go : Move) (old m : Mouth) → Pays 66 old m → Goes (outcome go m) old (made t go m)
-unfolding made
-moved_goes t (move.Used p) old m paid = let h = push_grows p m in enough 65 1 old m (pushed p m) paid (record { spent = h.spent; weight = omega (arith, h.weight) })
-moved_goes t (move.Stay f p) old m paid =
-    let h = push_grows p (scanning f m) in
-    let k = scan_small f in
-    enough 65 1 old m (pushed p (scanning f m)) paid (record { spent = h.spent; weight = omega (arith, h.weight, k) })
-moved_goes t (move.Copied f) old m (inl more) = inl (omega (arith, more))
-moved_goes t (move.Copied f) old m (inr less) = inl (omega (arith, less.0))
-moved_goes t move.Back old m paid = let h = back_grows t m in enough 65 1 old m (put_back t m) paid (record { spent = h.spent; weight = omega (arith, h.weight) })
-moved_goes t (move.BackUnder u) old m paid =
-    let h = back_grows t m in
-    let k = ended_list (put_back t m) (u ∷ []) in
-    enough 65 1 old m (read_next Fresh (u ∷ []) (put_back t m)) paid (record { spent = refl; weight = omega (arith, h.weight, k.weight) })
-moved_goes t (move.Hold by) old m paid = enough 65 1 old m (entered (entry.Kept t by) m) paid (record { spent = refl; weight = omega arith })
-moved_goes t move.Unexpanded old m paid = let h = kept_grows t m in enough 65 1 old m (read_next Unexpanded (t ∷ []) m) paid (record { spent = h.spent; weight = omega (arith, h.weight) })
-moved_goes t (move.Fails f) old m paid = tt
-moved_goes t (move.Ends e) old m paid = tt
+abbrev given_worth : ℕ → ℕ
+given_worth left = given_weight + stage_weight * left
 
--- ---- what an expandable token begins
+followed_fits : (left : ℕ) (t : Then) (m : Mouth) → Fits (given_worth left) m (followed left t m)
+unfolding followed
+followed_fits left (afterwards.Insert i) m = let h = inserted_adds i m in inr (h.spent, omega (arith, h.weight))
+followed_fits zero (afterwards.More s) m = inl refl
+followed_fits (suc n) (afterwards.More s) m = inr (refl, omega arith)
+followed_fits zero (afterwards.MoreBehind a s) m = inl refl
+followed_fits (suc n) (afterwards.MoreBehind a s) m = inr (refl, omega arith)
+followed_fits left (afterwards.Say text) m = inr (refl, omega arith)
 
--- the token is used up, or there is an error or an end
-abbrev IsSmall : Move → Type 0
-IsSmall (move.Used p) = Unit {0}
-IsSmall (move.Fails f) = Unit {0}
-IsSmall (move.Ends e) = Unit {0}
-IsSmall _ = ⊥
+-- WHATEVER A FINISHER DECIDES, the turn goes on
+pub finished_goes : (left : ℕ) (v : Value) (f : Finished) (m : Mouth) → Goes (entered (entry.Given left v) m) (finished_turn left f m)
+finished_goes left v f m =
+    let fits = followed_fits left f.ended.then (with_rest f.rest m) in
+    beside_value_goes f.ended.did (entered (entry.Given left v) m) (followed left f.ended.then (with_rest f.rest m))
+    (fits_falls 0 (given_worth left) m (with_rest f.rest m) (followed left f.ended.then (with_rest f.rest m)) (inr (refl, omega arith)) (record { forth = omega arith; few = omega arith }) (fits_alone (given_worth left) (with_rest f.rest m) (followed left f.ended.then (with_rest f.rest m)) fits) (entered (entry.Given left v) m) refl (omega arith))
+    (fits_steps (given_worth left) m (with_rest f.rest m) (followed left f.ended.then (with_rest f.rest m)) (record { forth = omega arith; few = omega arith }) fits (entered (entry.Given left v) m) refl)
 
-small_goes : (t : Token) (go : Move) (old m : Mouth) → IsSmall go → Pays 3 old m → Goes (outcome go m) old (made t go m)
-unfolding made
-small_goes t (move.Used p) old m small paid = enough 2 1 old m (pushed p m) paid (push_grows p m)
-small_goes t (move.Fails f) old m small paid = tt
-small_goes t (move.Ends e) old m small paid = tt
-small_goes t (move.Stay f p) old m small paid = absurd small
-small_goes t (move.Copied f) old m small paid = absurd small
-small_goes t move.Back old m small paid = absurd small
-small_goes t (move.BackUnder u) old m small paid = absurd small
-small_goes t (move.Hold by) old m small paid = absurd small
-small_goes t move.Unexpanded old m small paid = absurd small
+-- ---- what was fetched was paid for
 
-expand_small : (k : ExpandKind) → IsSmall (primitive_begun (prims.Expand k))
-unfolding primitive_begun
-expand_small expands.ExpandAfter = tt
-expand_small expands.NoExpand = tt
-expand_small expands.CsName = tt
-expand_small expands.Unless = tt
-
-convert_small : (k : ConvertKind) → IsSmall (primitive_begun (prims.Convert k))
-unfolding primitive_begun
-convert_small converts.String = tt
-convert_small _ = tt
-
-primitive_small : (p : Primitive) → IsSmall (primitive_begun p)
-unfolding primitive_begun
-primitive_small (prims.Expand k) = expand_small k
-primitive_small (prims.Convert k) = convert_small k
-primitive_small _ = tt
-
-macro_small : (b : Bool) (body : List Token) (f : Scan) → IsSmall (if b then move.Used (Text body) else move.Used (Begin f))
-macro_small true body f = tt
-macro_small false body f = tt
-
-begun_small : (t : Token) (mm : Meaning) → IsSmall (begun t mm)
-unfolding begun
-begun_small t means.Undefined = tt
-begun_small t (means.Primitive p) = primitive_small p
-begun_small t (means.Char code cat) = tt
-begun_small t (means.Macro m) = macro_small (is_plain m.parts) m.body (scan.Call t m (started m.parts m.is_long) false)
-
-begun_goes : (t : Token) (mm : Meaning) (old m : Mouth) → Pays 3 old m → Goes (outcome (begun t mm) m) old (made t (begun t mm) m)
-begun_goes t mm old m paid = small_goes t (begun t mm) old m (begun_small t mm) paid
-
--- ---- the scans
-
-abbrev pub GoesTo : Mouth → After → Type 0
-GoesTo old a = Goes a.turned old a.now
-
-named_grows : (p : Option Primitive) (name : List ℕ) (m : Mouth) → Grows 0 m (named p name m)
-named_grows None name m = record { spent = refl; weight = omega arith }
-named_grows (Some p) name m = record { spent = refl; weight = omega arith }
-
-with_name_grows : (name : List ℕ) (m : Mouth) → Grows 0 m (with_name name m)
-unfolding with_name
-with_name_grows name m = by (has_name m.names name)
+fetched_pays : (by : Reading) (old : Mouth) (g : Getting) → Pays old g → PaysFor old (fetched_by by g)
+fetched_pays by old g pays = record { paid = at g.got pays.paid; steps = pays.steps }
   where
-    by : (b : Bool) → Grows 0 m (if b then m else named (primitive_named name) name m)
-    by true = record { spent = refl; weight = omega arith }
-    by false = named_grows (primitive_named name) name m
+    token : (o : Option Expandable) (t : Token) (mm : Meaning) → Falls back_weight old g.now → PaidFor (wanted_as o t mm) old g.now
+    token None t mm paid = paid
+    token (Some what) t mm paid = paid
 
-relaxed_grows : (n : ℕ) (mm : Meaning) (m : Mouth) → Grows 0 m (relaxed n mm m)
-relaxed_grows n means.Undefined m = record { spent = refl; weight = omega arith }
-relaxed_grows n (means.Primitive p) m = record { spent = refl; weight = omega arith }
-relaxed_grows n (means.Char code cat) m = record { spent = refl; weight = omega arith }
-relaxed_grows n (means.Macro d) m = record { spent = refl; weight = omega arith }
+    at : (x : Got) → PaidGot x old g.now → PaidFor (fetched_as by x) old g.now
+    at (got.Token t mm) paid = token (wanted by mm) t mm paid
+    at (got.Over d) paid = paid
+    at (got.Cut text) paid = tt
 
-name_made_grows : (name : List ℕ) (m : Mouth) → Grows 0 m (name_made name m)
-unfolding name_made
-name_made_grows name m =
-    let h = with_name_grows name m in
-    let k = relaxed_grows (number_of name m) (meaning_in (with_name name m).values (number_of name m)) (with_name name m) in
-    record { spent = cc (h.spent, k.spent); weight = omega (arith, h.weight, k.weight) }
+pub scan_fetched_pays : (s : Scan) (m : Mouth) → PaysFor m (scan_fetched s m)
+unfolding scan_fetched
+scan_fetched_pays s m = fetched_pays (reading_of s) m (got_of (watch_by s (watch_of m.entries)) m) (got_pays (watch_by s (watch_of m.entries)) m)
 
-named_goes : (b : Bool) (name : List ℕ) (t : Token) (go : Move) (old m : Mouth) → Pays 66 old m → GoesTo old (named_turn b name t go m)
-named_goes true name t go old m paid = moved_goes t go old (name_made name m) (enough 0 66 old m (name_made name m) paid (name_made_grows name m))
-named_goes false name t go old m paid = tt
+pub keeper_fetched_pays : (by : Keeper) (m : Mouth) → PaysFor m (keeper_fetched by m)
+unfolding keeper_fetched
+keeper_fetched_pays by m = fetched_pays (keeper_reading by) m (got_of (watch_of m.entries) m) (got_pays (watch_of m.entries) m)
 
-name_end_goes : (name : List ℕ) (t : Token) (mm : Meaning) (old m : Mouth) → Pays 66 old m → GoesTo old (name_end_turn name t mm m)
-unfolding name_end_turn
-name_end_goes name t mm old m paid = named_goes (has_room name m) name t (name_row (name_token name m) mm) old m paid
+pub main_fetched_pays : (m : Mouth) → PaysFor m (main_fetched m)
+unfolding main_fetched
+main_fetched_pays m = fetched_pays reading_as.Expanded m (got_of (watch_of m.entries) m) (got_pays (watch_of m.entries) m)
 
-cs_name_goes : (name : List ℕ) (t : Token) (mm : Meaning) (old m : Mouth) → Pays 66 old m → GoesTo old (cs_name_turn name t mm m)
-unfolding cs_name_turn
-cs_name_goes name (Char code cat) mm old m paid = by (cat == 13)
+-- ---- where something stands above as before
+
+pub falls_above : (n : ℕ) (e f : Entry) (old new : Mouth) → entry_weight f ≤ entry_weight e → Falls n old new → Falls n (entered e old) (entered f new)
+falls_above n e f old new h (inl forth) = inl forth
+falls_above n e f old new h (inr less) = inr (less.0, omega (arith, less.1, h))
+
+pub falls_gone : (n : ℕ) (e : Entry) (old new : Mouth) → Falls n old new → Falls n (entered e old) new
+falls_gone n e old new (inl forth) = inl forth
+falls_gone n e old new (inr less) = inr (less.0, omega (arith, less.1))
+
+pub comes_above : (t : Turned) (e : Entry) (old new : Mouth) → Comes t old new → Comes t (entered e old) (entered e new)
+comes_above turned.Again e old new h = falls_above 1 e e old new (omega arith) h
+comes_above (turned.Deed (deed.Fresh a)) e old new h = falls_above 1 e e old new (omega arith) h
+comes_above (turned.Deed (deed.Space a)) e old new h = falls_above 1 e e old new (omega arith) h
+comes_above (turned.Deed (deed.Text b a)) e old new h = falls_above 1 e e old new (omega arith) h
+comes_above (turned.Deed (deed.Error b l a)) e old new h = tt
+comes_above (turned.Deed (deed.Create n)) e old new h = falls_above 1 e e old new (omega arith) h
+comes_above (turned.End e') e old new h = tt
+
+pub steps_more : (old new : Mouth) → Steps 1 old new → Steps 2 old new
+steps_more old new s = record { forth = s.forth; few = omega (arith, s.few) }
+
+-- nothing came, and what waits waits on
+pub over_goes : (e : Entry) (t : Turned) (old m : Mouth) → Comes t old m → Steps 1 old m → Goes (entered e old) (after (entered e m) t)
+over_goes e t old m comes steps = record { comes = comes_above t e old m comes; forth = steps.forth; few = omega (arith, steps.few) }
+
+-- it was cut off, which is an error
+pub cut_goes : (e f : Entry) (text : List ℕ) (old m : Mouth) → Steps 1 old m → Goes (entered e old) (after (entered f m) (error_deed text m))
+cut_goes e f text old m steps = record { comes = tt; forth = steps.forth; few = omega (arith, steps.few) }
+
+-- the same where nothing waits
+pub free_goes : (d : Did) (old m : Mouth) → Comes (turned_by d m) old m → Steps 1 old m → Goes old (after m (turned_by d m))
+free_goes d old m comes steps = record { comes = comes; forth = steps.forth; few = omega (arith, steps.few) }
+
+pub free_cut : (text : List ℕ) (old m : Mouth) → Steps 1 old m → Goes old (after m (error_deed text m))
+free_cut text old m steps = record { comes = tt; forth = steps.forth; few = omega (arith, steps.few) }
+
+pub expanded_goes : (what : Expandable) (t : Token) (old m : Mouth) → Falls back_weight old m → Steps 1 old m → Goes old (expanded_turn what t m)
+expanded_goes what t old m paid steps = begun_goes t (expanded what t m.rest) old m paid steps
+
+pub above_steps : (e f : Entry) (old m : Mouth) → Steps 1 old m → Steps 1 (entered e old) (entered f m)
+above_steps e f old m steps = record { forth = steps.forth; few = steps.few }
+
+pub idle_goes : (left : ℕ) (s : Scan) (i : Idle) (old m : Mouth) → PaidFor (fetched.Idle i) old m → Steps 1 old m → Goes (scanning left s old) (idle_turn left s i m)
+unfolding idle_turn
+idle_goes left s (idle.Expands t what) old m paid steps = expanded_goes what t (scanning left s old) (scanning left s m) (falls_above back_weight (entry.Scan left s) (entry.Scan left s) old m (omega arith) paid) (above_steps (entry.Scan left s) (entry.Scan left s) old m steps)
+idle_goes left s (idle.Over d) old m paid steps = over_goes (entry.Scan left s) (turned_by d m) old m paid steps
+idle_goes left s (idle.Cut text) old m paid steps = cut_goes (entry.Scan left s) (entry.Scan left (cut_off s)) text old m steps
+
+-- ---- the turns of expansion's entries
+
+pub expansion_goes : (left : ℕ) (e : ExpansionScan) (t : Token) (mm : Meaning) (old m : Mouth) → Falls back_weight old m → Steps 1 old m → Goes (scanning left (scan.Expansion e) old) (expansion_token left e t mm m)
+expansion_goes left e t mm old m paid steps = planned_goes left (scan.Expansion e) t (expansion_row e t mm m.rest) old m paid steps
+
+pub number_goes : (left : ℕ) (k : NumberScan) (f : NumberFinish) (t : Token) (mm : Meaning) (old m : Mouth) → Falls back_weight old m → Steps 1 old m → Goes (scanning left (scan.Number k f) old) (number_token left k f t mm m)
+number_goes left k f t mm old m paid steps = planned_goes left (scan.Number k f) t (reading (number_row k f t mm m.rest) m.rest) old m paid steps
+
+pub text_goes : (left : ℕ) (o : OpenText) (f : TextFinish) (t : Token) (mm : Meaning) (old m : Mouth) → Falls back_weight old m → Steps 1 old m → Goes (scanning left (scan.Text o f) old) (text_token left o f t mm m)
+text_goes left o f t mm old m paid steps = planned_goes left (scan.Text o f) t (reading (text_row o f t mm) m.rest) old m paid steps
+
+-- what adds nothing
+pub falls_same : (n : ℕ) (old m new : Mouth) → Adds 0 m new → Falls n old m → Falls n old new
+falls_same n old m new a (inl forth) = inl (omega (arith, a.spent, forth))
+falls_same n old m new a (inr less) = inr (omega (arith, a.spent, less.0), omega (arith, a.weight, less.1))
+
+-- two tokens are read again, one of which was kept
+pub both_back : (e : Entry) (first t : Token) (old m : Mouth) → entry_weight e ≡ held_weight → Falls back_weight old m → Steps 1 old m → Falls 1 (entered e old) (put_back first (put_back t m))
+both_back e first t old m is (inl forth) steps = let h = back_adds t m in let k = back_adds first (put_back t m) in inl (omega (arith, h.spent, k.spent, forth))
+both_back e first t old m is (inr less) steps = let h = back_adds t m in let k = back_adds first (put_back t m) in inr (omega (arith, h.spent, k.spent, less.0), omega (arith, h.weight, k.weight, less.1, is))
+
+pub both_steps : (e : Entry) (first t : Token) (old m : Mouth) → Steps 1 old m → Steps 2 (entered e old) (put_back first (put_back t m))
+both_steps e first t old m steps = let h = back_adds t m in let k = back_adds first (put_back t m) in record { forth = omega (arith, h.spent, k.spent, steps.forth); few = omega (arith, h.spent, k.spent, steps.few) }
+
+abbrev kept_entry : Token → Entry
+kept_entry kept = entry.Kept kept keeper.ExpandAfter
+
+pub expand_after_goes : (kept : Token) (m : Mouth) → Goes (entered (entry.Kept kept keeper.ExpandAfter) m) (expand_after_turn kept m)
+unfolding expand_after_turn
+expand_after_goes kept m = by (keeper_fetched keeper.ExpandAfter m).fetched (keeper_fetched keeper.ExpandAfter m).now (keeper_fetched_pays keeper.ExpandAfter m).paid (keeper_fetched_pays keeper.ExpandAfter m).steps
   where
-    by : (b : Bool) → GoesTo old (if b then name_end_turn name (Char code cat) mm m else moved (Char code cat) (move.Copied (scan.CsName (name ++ code ∷ []))) m)
-    by true = name_end_goes name (Char code cat) mm old m paid
-    by false = moved_goes (Char code cat) (move.Copied (scan.CsName (name ++ code ∷ []))) old m paid
-cs_name_goes name (Name n) mm old m paid = name_end_goes name (Name n) mm old m paid
-cs_name_goes name (Param n) mm old m paid = name_end_goes name (Param n) mm old m paid
+    by : (x : Fetched) (n : Mouth) → PaidFor x m n → Steps 1 m n → Goes (entered (kept_entry kept) m) (kept_with kept x n)
+    by (fetched.Token t mm) n paid steps =
+        let s = both_steps (kept_entry kept) kept t m n steps in
+        record { comes = both_back (kept_entry kept) kept t m n refl paid steps; forth = s.forth; few = s.few }
+    by (fetched.Idle (idle.Expands t what)) n paid steps = expanded_goes what t (entered (kept_entry kept) m) (entered (entry.Due kept) n) (falls_above back_weight (kept_entry kept) (entry.Due kept) m n (omega arith) paid) (above_steps (kept_entry kept) (entry.Due kept) m n steps)
+    by (fetched.Idle (idle.Over d)) n paid steps = over_goes (kept_entry kept) (turned_by d n) m n paid steps
+    by (fetched.Idle (idle.Cut text)) n paid steps = cut_goes (kept_entry kept) (kept_entry kept) text m n steps
 
--- what was paid covers less, too
-less : (n k : ℕ) (old m : Mouth) → k ≤ n → Pays n old m → Pays k old m
-less n k old m small (inl more) = inl more
-less n k old m small (inr fell) = inr (fell.0, omega (arith, fell.1, small))
+pub due_goes : (t : Token) (m : Mouth) → Goes (entered (entry.Due t) m) (due_turn t m)
+due_goes t m = let h = back_adds t m in record { comes = inr (h.spent, omega (arith, h.weight)); forth = omega (arith, h.spent); few = omega (arith, h.spent) }
 
-text_goes : (b : Brace) (reader : Token) (depth : ℕ) (items : List Token) (t : Token) (old m : Mouth) → Pays 66 old m → GoesTo old (text_by b reader depth items t m)
-text_goes Left reader depth items t old m paid = moved_goes t (move.Copied (scan.Text reader (depth + 1) (items ++ t ∷ []))) old m paid
-text_goes Right reader depth items t old m paid = by (depth == 0)
-  where
-    by : (b : Bool) → GoesTo old (if b then after m (turned.Ready (Whole items)) else text_goes_on reader (depth - 1) items t m)
-    by true = less 66 64 old m (omega arith) paid
-    by false = moved_goes t (move.Copied (scan.Text reader (depth - 1) (items ++ t ∷ []))) old m paid
-text_goes Neither reader depth items t old m paid = moved_goes t (move.Copied (scan.Text reader depth (items ++ t ∷ []))) old m paid
+pub say_goes : (text : List ℕ) (m : Mouth) → Goes (entered (entry.Say text) m) (say_turn text m)
+say_goes text m = record { comes = inr (refl, omega arith); forth = omega arith; few = omega arith }
 
--- steps more are paid for
-charged_pays : (n k : ℕ) (old m : Mouth) → Pays k old m → Pays k old (charged n m)
-charged_pays n k old m (inl more) = inl (omega (arith, more))
-charged_pays zero k old m (inr fell) = inr (omega (arith, fell.0), fell.1)
-charged_pays (suc n) k old m (inr fell) = inl (omega (arith, fell.0))
+-- ---- the same, of what is equal
 
-fed_goes : (fed : Fed) (name : Token) (definition : MacroState) (matcher : MatcherState) (is_cut : Bool) (copied : ℕ) (t : Token) (old m : Mouth) → Pays 66 old m
-    → GoesTo old (fed_turn fed name definition matcher is_cut copied t m)
-fed_goes says.More name definition matcher is_cut copied t old m paid =
-    enough 65 1 old (charged copied m) (scanning (scan.Call name definition matcher is_cut) (charged copied m)) (charged_pays copied 66 old m paid) (record { spent = refl; weight = omega arith })
-fed_goes says.Done name definition matcher is_cut copied t old m paid =
-    let h = ended_list (charged copied m) (substituted definition.body matcher.args) in
-    enough 65 1 old (charged copied m) (read_next Fresh (substituted definition.body matcher.args) (charged copied m)) (charged_pays copied 66 old m paid) (record { spent = h.spent; weight = omega (arith, h.weight) })
-fed_goes (says.Fault fault) name definition matcher is_cut copied t old m paid = moved_goes t (refused_row fault name is_cut m) old m paid
-
-call_goes : (name : Token) (definition : MacroState) (matcher : MatcherState) (is_cut : Bool) (t : Token) (old m : Mouth) → Pays 66 old m → GoesTo old (call_turn name definition matcher is_cut t m)
-unfolding call_turn
-call_goes name definition matcher is_cut t old m paid = by (is_extra matcher t)
-  where
-    by : (b : Bool) → GoesTo old (if b then moved t (extra_row name definition matcher m) m else fed_turn (fed_of matcher t).fed name definition (fed_of matcher t).matcher is_cut (copies matcher t) t m)
-    by true = moved_goes t (extra_row name definition matcher m) old m paid
-    by false = fed_goes (fed_of matcher t).fed name definition (fed_of matcher t).matcher is_cut (copies matcher t) t old m paid
-
-handed_goes : (f : Scan) (t : Token) (mm : Meaning) (old m : Mouth) → Pays 66 old m → GoesTo old (handed f t mm m)
-handed_goes f t mm old m paid = let h = scan_small f in enough 2 64 old m (scanning f m) paid (record { spent = refl; weight = omega (arith, h) })
-
-scan_goes : (f : Scan) (t : Token) (mm : Meaning) (old m : Mouth) → Pays (64 + scan_weight f) old m → GoesTo old (scan_turn f t mm m)
-unfolding scan_turn text_turn
-scan_goes scan.ExpandAfter t mm old m paid = moved_goes t (move.Hold keeper.ExpandAfter) old m paid
-scan_goes scan.NoExpand t mm old m paid = moved_goes t move.Unexpanded old m paid
-scan_goes scan.StringOf t mm old m paid = moved_goes t (move.Used (Text (character_tokens (spelled m t)))) old m paid
-scan_goes (scan.CsName name) t mm old m paid = cs_name_goes name t mm old m paid
-scan_goes (scan.Call name definition matcher is_cut) t mm old m paid = call_goes name definition matcher is_cut t old m paid
-scan_goes (scan.TextBrace reader) t mm old m paid = moved_goes t (text_brace_row reader mm) old m paid
-scan_goes (scan.Text reader depth items) t mm old m paid = text_goes (brace_of t) reader depth items t old m paid
-scan_goes scan.Command t mm old m paid = paid
-scan_goes f t mm old m paid = handed_goes f t mm old m paid
-
-under_goes : (b : Bool) (kept t : Token) (mm : Meaning) (old m : Mouth) → Pays 129 old m
-    → GoesTo old (if b then moved t (begun t mm) (entered (entry.PutBack kept) m) else after (put_back kept (put_back t m)) turned.Again)
-under_goes true kept t mm old m paid = begun_goes t mm old (entered (entry.PutBack kept) m) (enough 126 3 old m (entered (entry.PutBack kept) m) paid (record { spent = refl; weight = omega arith }))
-under_goes false kept t mm old m paid =
-    let h = back_grows t m in
-    let k = back_grows kept (put_back t m) in
-    enough 128 1 old m (put_back kept (put_back t m)) paid (record { spent = refl; weight = omega (arith, h.weight, k.weight) })
-
-kept_goes : (by : Keeper) (kept t : Token) (mm : Meaning) (old m : Mouth) → Pays 129 old m → GoesTo old (kept_turn by kept t mm m)
-unfolding kept_turn
-kept_goes keeper.ExpandAfter kept t mm old m paid = under_goes (is_expandable mm) kept t mm old m paid
-kept_goes (keeper.Future is_global name) kept t mm old m paid =
-    enough 65 64 old m (entered (entry.Kept kept (keeper.Future is_global name)) m) paid (record { spent = refl; weight = omega arith })
-
--- ---- the turn
-
--- what was got, where something was taken off the stack after it
-pub taken : (n : ℕ) (e : Entry) (es : List Entry) (old m : Mouth) → old.scans ≡ e ∷ es → m.scans ≡ old.scans → n ≡ entry_weight e → Pays 64 old m → Pays (64 + n) old (with_scans es m)
-taken n e es old m was same weighs (inl more) = inl more
-taken n e es old m was same weighs (inr fell) = inr (fell.0, omega (arith, fell.1, lighter))
-  where
-    lighter : stack_weight m.scans ≡ n + stack_weight es
-    lighter = rw (same, was, weighs)
-
-scan_got_goes : (f : Scan) (es : List Entry) (g : Got) (old m : Mouth) → old.scans ≡ entry.Scan f ∷ es → m.scans ≡ old.scans → GoesGot g old m → GoesTo old (scan_got f es g m)
-scan_got_goes f es (got.Over d) old m was same goes = goes
-scan_got_goes f es (got.Cut text) old m was same goes = tt
-scan_got_goes f es (got.Token t mm) old m was same goes = by (is_expanded_by (reading_of f) mm)
-  where
-    by : (b : Bool) → GoesTo old (if b then moved t (begun t mm) m else scan_turn f t mm (with_scans es m))
-    by true = begun_goes t mm old m (less 64 3 old m (omega arith) goes)
-    by false = scan_goes f t mm old (with_scans es m) (taken (scan_weight f) (entry.Scan f) es old m was same refl goes)
-
-kept_got_goes : (by : Keeper) (kept : Token) (es : List Entry) (g : Got) (old m : Mouth) → old.scans ≡ entry.Kept kept by ∷ es → m.scans ≡ old.scans → GoesGot g old m → GoesTo old (kept_got by kept es g m)
-kept_got_goes by kept es (got.Over d) old m was same goes = goes
-kept_got_goes by kept es (got.Cut text) old m was same goes = tt
-kept_got_goes by kept es (got.Token t mm) old m was same goes = kept_goes by kept t mm old (with_scans es m) (taken 65 (entry.Kept kept by) es old m was same refl goes)
-
-say_goes : (text : List ℕ) (is_parted : Bool) (es : List Entry) (old : Mouth) → old.scans ≡ entry.Say text is_parted ∷ es → GoesTo old (say_turn text is_parted (with_scans es old))
-say_goes text true es old was = inr (refl, omega (arith, ap stack_weight was))
-say_goes text false es old was = inr (refl, omega (arith, ap stack_weight was))
-
-back_goes : (t : Token) (es : List Entry) (old : Mouth) → old.scans ≡ entry.PutBack t ∷ es → Pays 1 old (put_back t (with_scans es old))
-back_goes t es old was = let h = back_grows t (with_scans es old) in inr (h.spent, omega (arith, h.weight, ap stack_weight was))
-
--- the stack isn't empty
-abbrev IsFull : List Entry → Type 0
-IsFull [] = ⊥
-IsFull (e ∷ es) = Unit {0}
-
-entry_goes : (es : List Entry) (m : Mouth) → m.scans ≡ es → IsFull es → GoesTo m (entry_turn es m)
-entry_goes [] m was full = absurd full
-entry_goes (entry.Scan f ∷ es) m was full = scan_got_goes f es (got_of m).got m (got_of m).now was (got_charges m).scans (got_goes m)
-entry_goes (entry.Kept kept by ∷ es) m was full = kept_got_goes by kept es (got_of m).got m (got_of m).now was (got_charges m).scans (got_goes m)
-entry_goes (entry.PutBack t ∷ es) m was full = back_goes t es m was
-entry_goes (entry.Say text is_parted ∷ es) m was full = say_goes text is_parted es m was
-
--- each turn of a mouth that has something on its stack
-turn_goes : (m : Mouth) → IsFull m.scans → GoesTo m (turn_of m)
-unfolding turn_of
-turn_goes m full = entry_goes m.scans m refl full
-
-full : (es : List Entry) → (es ≡ [] → ⊥) → IsFull es
-full [] some = some refl
-full (e ∷ es) some = tt
-
--- the same, of a mouth and an answer that are equal
-pub turn_goes_to : (old new : Mouth) (d : Turned) → (old.scans ≡ [] → ⊥) → new ≡ (turn_of old).now → d ≡ (turn_of old).turned → Goes d old new
-turn_goes_to old new d some now is =
-    subst (λ (u : Mouth). Goes d old u) (sym now) (subst (λ (y : Turned). Goes y old (turn_of old).now) (sym is) (turn_goes old (full old.scans some)))
+pub goes_to : (old now : Mouth) (t : Turned) (a : After) → now ≡ a.now → t ≡ a.turned → Goes old a → Goes old (after now t)
+goes_to old now t a is same goes = subst (λ (m : Mouth). Goes old (after m t)) (sym is) (subst (λ (u : Turned). Goes old (after a.now u)) (sym same) goes)

@@ -1,4 +1,5 @@
-pub mod Gotten
+pub mod CallLaws
+pub mod Codes
 pub mod Falling
-pub mod Groups
+pub mod Gotten
 pub mod Watching

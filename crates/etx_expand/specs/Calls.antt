@@ -1,7 +1,6 @@
 -- A macro call: what becomes of a token where its arguments are matched ("TeX: The Program", sections 389 to 401).
-use Rattle.std.specs.Prelude.{ℕ, Bool, true, false, List, [], ◌∷◌, ◌++◌, Some, None, codes, if◌then◌else◌}
+use Rattle.std.specs.Prelude.{ℕ, Bool, true, false, List, [], ◌++◌, codes, if◌then◌else◌}
 use Rattle.etx_matter.specs.declared.token.Token.{Token}
-use Rattle.etx_input.specs.declared.origin.Origin.TheVariants.{Fresh}
 use Rattle.etx_macros.specs.declared.fault.Fed.{Fed}
 use Rattle.etx_macros.specs.declared.fault.Fed.TheVariants as says
 use Rattle.etx_macros.specs.declared.fault.MatchFault.{MatchFault}
@@ -9,65 +8,77 @@ use Rattle.etx_macros.specs.declared.fault.MatchFault.TheVariants.{DoesNotMatch,
 use Rattle.etx_macros.specs.State.{MatcherState}
 use Rattle.etx_macros.specs.Feeding.{fed_of, is_copied, is_extra, short, unmatched}
 use Rattle.etx_macros.specs.Substituting.{substituted}
+use Rattle.etx_state.specs.declared.scan.Call.{Call}
+use Rattle.etx_state.specs.declared.scan.ExpansionScan.{ExpansionScan}
+use Rattle.etx_state.specs.declared.scan.ExpansionScan.TheVariants as expansion
 use Rattle.etx_state.specs.declared.scan.Scan.{Scan}
 use Rattle.etx_state.specs.declared.scan.Scan.TheVariants as scan
-use Rattle.etx_state.specs.Macros.{MacroState}
-use Rattle.etx_state.specs.States.{Mouth}
-use Rattle.etx_expand.specs.declared.plan.Push.TheVariants.{Nothing}
+use Rattle.etx_state.specs.Rests.{RestState}
+use Rattle.etx_expand.specs.declared.plan.Insert.{Insert}
 use Rattle.etx_expand.specs.declared.plan.Move.{Move}
-use Rattle.etx_expand.specs.declared.plan.Move.TheVariants.{Used, Fails}
-use Rattle.etx_expand.specs.declared.plan.Turned.TheVariants as turned
-use Rattle.etx_expand.specs.Moves.{After, after, moved, charged, scanning, read_next}
-use Rattle.etx_expand.specs.Printing.{shown_name}
+use Rattle.etx_expand.specs.declared.plan.Move.TheVariants.{Used, Stay, Copied, CopiedLast}
+use Rattle.etx_expand.specs.declared.plan.Plan.{Plan}
+use Rattle.etx_expand.specs.Answers.{quiet, used, fails, fails_back, fails_under, insert_of}
 use Rattle.etx_expand.specs.Getting.{par}
+use Rattle.etx_expand.specs.Printing.{shown_name}
+
+abbrev pub call_scan : Call → Scan
+call_scan c = scan.Expansion (expansion.Call c)
 
 -- the text of an error that names the macro
-abbrev pub naming : List ℕ → Token → List ℕ → Mouth → List ℕ
-naming before name behind m = (before ++ shown_name m name) ++ behind
+abbrev pub naming : List ℕ → Token → List ℕ → RestState → List ℕ
+naming before name behind r = (before ++ shown_name r name) ++ behind
 
 -- A right brace that no left brace of the argument opens: \par is read before it, and the call goes on as that of a macro which
 -- isn't long. What was matched of the delimiter belongs to the argument then.
-abbrev pub extra_row : Token → MacroState → MatcherState → Mouth → Move
-extra_row name definition matcher m =
-    Fails (record {
-      text = naming (codes "Argument of ") name (codes " has an extra }") m;
-      scan = Some (scan.Call name definition (unmatched matcher) false);
-      is_back = true;
-      inserted = par ∷ [];
-    })
-
--- an error that ends the call
-abbrev pub call_failure : List ℕ → Bool → Move
-call_failure text is_back = Fails (record { text = text; scan = None; is_back = is_back; inserted = [] })
+abbrev pub extra_brace : Call → RestState → Plan
+extra_brace c r = fails_under par (naming (codes "Argument of ") c.name (codes " has an extra }") r) (Stay (call_scan (record c { matcher = unmatched c.matcher; is_cut = false })))
 
 -- The end of a paragraph ends the call, and is read again. A call that was cut off it ends without an error, and is gone.
-abbrev pub paragraph_row : Token → Bool → Mouth → Move
-paragraph_row name true m = Used Nothing
-paragraph_row name false m = call_failure (naming (codes "Paragraph ended before ") name (codes " was complete") m) true
+abbrev pub paragraph_ended : Bool → Token → RestState → Plan
+paragraph_ended true name r = quiet used
+paragraph_ended false name r = fails_back (naming (codes "Paragraph ended before ") name (codes " was complete") r) used
 
--- Why no call goes on with a token. (Before it is fed an extra right brace is known to be that.)
-abbrev pub refused_row : MatchFault → Token → Bool → Mouth → Move
-refused_row DoesNotMatch name is_cut m = call_failure (naming (codes "Use of ") name (codes " doesn't match its definition") m) false
-refused_row ParagraphEnded name is_cut m = paragraph_row name is_cut m
-refused_row ExtraBrace name is_cut m = Used Nothing
+abbrev pub does_not_match : Token → RestState → Plan
+does_not_match name r = fails (naming (codes "Use of ") name (codes " doesn't match its definition") r) used
+
+-- why no call goes on with a token
+abbrev pub refused : MatchFault → Call → RestState → Plan
+refused DoesNotMatch c r = does_not_match c.name r
+refused ParagraphEnded c r = paragraph_ended c.is_cut c.name r
+refused ExtraBrace c r = extra_brace c r
 
 -- a token that is copied into an argument is a step more
-abbrev pub copies : MatcherState → Token → ℕ
-copies matcher t = if is_copied matcher t then 1 else 0
+abbrev pub goes_on : Bool → Scan → Move
+goes_on true s = Copied s
+goes_on false s = Stay s
+
+abbrev pub is_over : Bool → Insert → Move
+is_over true i = CopiedLast i
+is_over false i = Used i
 
 -- a call that is complete stands for the body with its arguments
-abbrev pub fed_turn : Fed → Token → MacroState → MatcherState → Bool → ℕ → Token → Mouth → After
-fed_turn says.More name definition matcher is_cut copied t m = after (scanning (scan.Call name definition matcher is_cut) (charged copied m)) turned.Again
-fed_turn says.Done name definition matcher is_cut copied t m = after (read_next Fresh (substituted definition.body matcher.args) (charged copied m)) turned.Again
-fed_turn (says.Fault fault) name definition matcher is_cut copied t m = moved t (refused_row fault name is_cut m) m
+abbrev pub fed_by : Fed → MatcherState → Bool → Call → RestState → Plan
+fed_by says.More matcher copied c r = quiet (goes_on copied (call_scan (record c { matcher = matcher })))
+fed_by says.Done matcher copied c r = quiet (is_over copied (insert_of (substituted c.definition.body matcher.args)))
+fed_by (says.Fault fault) matcher copied c r = refused fault (record c { matcher = matcher }) r
 
--- the call of a macro gets a token
-unfoldable pub call_turn : Token → MacroState → MatcherState → Bool → Token → Mouth → After
-call_turn name definition matcher is_cut t m =
-    if is_extra matcher t then moved t (extra_row name definition matcher m) m
-    else fed_turn (fed_of matcher t).fed name definition (fed_of matcher t).matcher is_cut (copies matcher t) t m
+-- The call of a macro gets a token. An extra right brace is known before it is fed, while what was matched still counts.
+unfoldable pub call_row : Call → Token → RestState → Plan
+call_row c t r = if is_extra c.matcher t then extra_brace c r else fed_by (fed_of c.matcher t).fed (fed_of c.matcher t).matcher (is_copied c.matcher t) c r
 
 -- A call that is cut off goes on as that of a macro which isn't long. Other scans go on as they were.
+abbrev pub expansion_cut : ExpansionScan → ExpansionScan
+expansion_cut expansion.ExpandAfter = expansion.ExpandAfter
+expansion_cut expansion.NoExpand = expansion.NoExpand
+expansion_cut expansion.StringOf = expansion.StringOf
+expansion_cut (expansion.CsName name) = expansion.CsName name
+expansion_cut (expansion.Call c) = expansion.Call (record c { matcher = short c.matcher; is_cut = true })
+expansion_cut expansion.Equals = expansion.Equals
+
 unfoldable pub cut_off : Scan → Scan
-cut_off (scan.Call name definition matcher is_cut) = scan.Call name definition (short matcher) true
-cut_off f = f
+cut_off (scan.Expansion e) = scan.Expansion (expansion_cut e)
+cut_off (scan.Number n f) = scan.Number n f
+cut_off (scan.Text t f) = scan.Text t f
+cut_off (scan.Assign a) = scan.Assign a
+cut_off (scan.Control c) = scan.Control c

@@ -1,7 +1,12 @@
-pub mod Moves
-pub mod Printing
-pub mod Meanings
-pub mod Getting
+pub mod Answers
 pub mod Calls
-pub mod Turn
+pub mod Expanding
+pub mod Getting
+pub mod Meanings
 pub mod Measure
+pub mod Moves
+pub mod Names
+pub mod Numbers
+pub mod Printing
+pub mod Texts
+pub mod Turn

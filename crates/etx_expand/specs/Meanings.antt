@@ -1,80 +1,154 @@
--- What expansion asks of a meaning.
-use Rattle.std.specs.Prelude.{Bool, true, false, not, ◌&&◌, Option, Some, None}
-use Rattle.etx_matter.specs.declared.token.Token.{Token}
+-- What expansion asks of a meaning, and which scans expand.
+use Rattle.std.specs.Prelude.{Bool, true, false, Option, Some, None, ◌==◌, if◌then◌else◌, ℕ}
 use Rattle.etx_prims.specs.declared.command.Primitive.{Primitive}
 use Rattle.etx_prims.specs.declared.command.Primitive.TheVariants as prims
+use Rattle.etx_prims.specs.declared.expansion.ExpandKind.{ExpandKind}
+use Rattle.etx_prims.specs.declared.expansion.ExpandKind.TheVariants as expands
+use Rattle.etx_prims.specs.declared.expansion.ConvertKind.{ConvertKind}
+use Rattle.etx_prims.specs.declared.expansion.ConvertKind.TheVariants as converts
 use Rattle.etx_state.specs.declared.key.Meaning.{Meaning}
-use Rattle.etx_state.specs.declared.key.Meaning.TheVariants.{Undefined, Primitive as Command, Char, Macro}
+use Rattle.etx_state.specs.declared.key.Meaning.TheVariants as means
+use Rattle.etx_state.specs.declared.scan.ExpansionScan.{ExpansionScan}
+use Rattle.etx_state.specs.declared.scan.ExpansionScan.TheVariants as expansion
+use Rattle.etx_state.specs.declared.scan.NumberScan.{NumberScan}
+use Rattle.etx_state.specs.declared.scan.NumberScan.TheVariants as number
+use Rattle.etx_state.specs.declared.scan.TextPlace.{TextPlace}
+use Rattle.etx_state.specs.declared.scan.TextPlace.TheVariants as place
+use Rattle.etx_state.specs.declared.scan.ParameterMark.{ParameterMark}
+use Rattle.etx_state.specs.declared.scan.AssignScan.{AssignScan}
+use Rattle.etx_state.specs.declared.scan.AssignScan.TheVariants as assign
+use Rattle.etx_state.specs.declared.scan.Keeper.{Keeper}
+use Rattle.etx_state.specs.declared.scan.Keeper.TheVariants as keeper
 use Rattle.etx_state.specs.declared.scan.Scan.{Scan}
 use Rattle.etx_state.specs.declared.scan.Scan.TheVariants as scan
+use Rattle.etx_expand.specs.declared.meaning.Expandable.{Expandable}
+use Rattle.etx_expand.specs.declared.meaning.Expandable.TheVariants as expandable
 use Rattle.etx_expand.specs.declared.meaning.Reading.{Reading}
 use Rattle.etx_expand.specs.declared.meaning.Reading.TheVariants.{Plain, Expanded, Text}
 
+-- ---- what an expandable token is
+
+abbrev pub expand_kind : ExpandKind → Expandable
+expand_kind expands.ExpandAfter = expandable.ExpandAfter
+expand_kind expands.NoExpand = expandable.NoExpand
+expand_kind expands.CsName = expandable.CsName
+expand_kind expands.Unless = expandable.Unbuilt
+
+abbrev pub convert_kind : ConvertKind → Expandable
+convert_kind converts.String = expandable.StringOf
+convert_kind converts.Number = expandable.Unbuilt
+convert_kind converts.RomanNumeral = expandable.Unbuilt
+convert_kind converts.Meaning = expandable.Unbuilt
+convert_kind converts.FontName = expandable.Unbuilt
+convert_kind converts.ETeXRevision = expandable.Unbuilt
+convert_kind converts.JobName = expandable.Unbuilt
+
 -- the primitives that are expanded, by families
-unfoldable pub is_expandable_primitive : Primitive → Bool
-is_expandable_primitive (prims.Expand kind) = true
-is_expandable_primitive (prims.Input kind) = true
-is_expandable_primitive (prims.Conditional kind) = true
-is_expandable_primitive (prims.FiOrElse kind) = true
-is_expandable_primitive (prims.Convert kind) = true
-is_expandable_primitive (prims.The kind) = true
-is_expandable_primitive (prims.TopBotMark kind) = true
-is_expandable_primitive (prims.TopBotMarks kind) = true
-is_expandable_primitive _ = false
+unfoldable pub primitive_expandable : Primitive → Option Expandable
+primitive_expandable (prims.Expand kind) = Some (expand_kind kind)
+primitive_expandable (prims.Convert kind) = Some (convert_kind kind)
+primitive_expandable (prims.Input kind) = Some expandable.Unbuilt
+primitive_expandable (prims.Conditional kind) = Some expandable.Unbuilt
+primitive_expandable (prims.FiOrElse kind) = Some expandable.Unbuilt
+primitive_expandable (prims.The kind) = Some expandable.Unbuilt
+primitive_expandable (prims.TopBotMark kind) = Some expandable.Unbuilt
+primitive_expandable (prims.TopBotMarks kind) = Some expandable.Unbuilt
+primitive_expandable _ = None
 
 -- an undefined control sequence counts, since its expansion is an error
-unfoldable pub is_expandable : Meaning → Bool
-is_expandable Undefined = true
-is_expandable (Command p) = is_expandable_primitive p
-is_expandable (Char code cat) = false
-is_expandable (Macro m) = true
+unfoldable pub expandable_of : Meaning → Option Expandable
+expandable_of means.Undefined = Some expandable.Undefined
+expandable_of (means.Primitive p) = primitive_expandable p
+expandable_of (means.Char code cat) = None
+expandable_of (means.Macro m) = Some (expandable.Call m)
+expandable_of means.Unexpanded = None
+expandable_of means.EndTemplate = None
+
+-- ---- other questions
 
 unfoldable pub is_outer : Meaning → Bool
-is_outer (Macro m) = m.is_outer
+is_outer (means.Macro m) = m.is_outer
 is_outer _ = false
 
 unfoldable pub is_protected : Meaning → Bool
-is_protected (Macro m) = m.is_protected
+is_protected (means.Macro m) = m.is_protected
 is_protected _ = false
 
--- in a text that is expanded protected macros stay
-unfoldable pub is_expanded_by : Reading → Meaning → Bool
-is_expanded_by Plain mm = false
-is_expanded_by Expanded mm = is_expandable mm
-is_expanded_by Text mm = is_expandable mm && not (is_protected mm)
+-- a character of this category
+abbrev pub has_category : ℕ → Meaning → Bool
+has_category k (means.Char code cat) = cat == k
+has_category k _ = false
+
+-- \relax, and what \noexpand made it for once
+unfoldable pub is_relax : Meaning → Bool
+is_relax (means.Primitive prims.Relax) = true
+is_relax means.Unexpanded = true
+is_relax _ = false
+
+-- this time a token that would be expanded is as \relax
+abbrev pub unexpanded_by : Option Expandable → Meaning → Meaning
+unexpanded_by None mm = mm
+unexpanded_by (Some what) mm = means.Unexpanded
+
+unfoldable pub unexpanded : Meaning → Meaning
+unexpanded mm = unexpanded_by (expandable_of mm) mm
+
+-- ---- which scans expand: how a scan gets its tokens
+
+abbrev pub expansion_reading : ExpansionScan → Reading
+expansion_reading expansion.ExpandAfter = Plain
+expansion_reading expansion.NoExpand = Plain
+expansion_reading expansion.StringOf = Plain
+expansion_reading (expansion.CsName name) = Expanded
+expansion_reading (expansion.Call c) = Plain
+expansion_reading expansion.Equals = Expanded
+
+abbrev pub number_reading : NumberScan → Reading
+number_reading (number.Start form) = Expanded
+number_reading number.Constant = Plain
+number_reading (number.Digits digits left) = Expanded
+
+abbrev pub text_reading : TextPlace → Reading
+text_reading place.Before = Expanded
+text_reading (place.Inside depth) = Text
 
 -- the body of \edef and \xdef is a text that is expanded; behind a character of category 6 a protected macro is expanded too
-abbrev pub body_reading : Bool → Option Token → Reading
+abbrev pub body_reading : Bool → Option ParameterMark → Reading
 body_reading false mark = Plain
 body_reading true None = Text
-body_reading true (Some t) = Expanded
+body_reading true (Some mark) = Expanded
 
--- how a scan gets its tokens: as they are, after expansion, or as a text that is expanded
+abbrev pub assign_reading : AssignScan → Reading
+assign_reading (assign.Prefix prefixes) = Expanded
+assign_reading (assign.Name naming) = Plain
+assign_reading (assign.Params d) = Plain
+assign_reading (assign.Body d) = body_reading d.is_expanded d.mark
+assign_reading (assign.LetEquals is_global name) = Plain
+assign_reading (assign.LetSpace is_global name) = Plain
+assign_reading (assign.LetToken is_global name) = Plain
+assign_reading (assign.FutureFirst is_global name) = Plain
+assign_reading assign.AfterGroup = Plain
+assign_reading assign.AfterAssignment = Plain
+
 unfoldable pub reading_of : Scan → Reading
-reading_of scan.ExpandAfter = Plain
-reading_of scan.NoExpand = Plain
-reading_of scan.StringOf = Plain
-reading_of (scan.CsName name) = Expanded
-reading_of (scan.Call name definition matcher is_cut) = Plain
-reading_of scan.Command = Expanded
-reading_of (scan.TextBrace reader) = Expanded
-reading_of (scan.Text reader depth items) = Text
-reading_of scan.Message = Plain
-reading_of (scan.Prefix prefixes) = Expanded
-reading_of (scan.DefName prefixes is_expanded) = Plain
-reading_of (scan.DefParams definition mark) = Plain
-reading_of (scan.DefBody definition depth body mark) = body_reading definition.is_expanded mark
-reading_of (scan.LetName is_global is_future) = Plain
-reading_of (scan.LetEquals is_global name) = Plain
-reading_of (scan.LetSpace is_global name) = Plain
-reading_of (scan.LetToken is_global name) = Plain
-reading_of (scan.FutureFirst is_global name) = Plain
-reading_of scan.AfterGroup = Plain
-reading_of scan.AfterAssignment = Plain
-reading_of scan.IgnoreSpaces = Expanded
-reading_of (scan.CatcodeQuote is_global) = Expanded
-reading_of (scan.CatcodeCharacter is_global) = Plain
-reading_of (scan.CatcodeEquals is_global code) = Expanded
-reading_of (scan.CatcodeFirst is_global code) = Expanded
-reading_of (scan.CatcodeSecond is_global code first) = Expanded
-reading_of (scan.CatcodeSpace is_global code category) = Expanded
+reading_of (scan.Expansion e) = expansion_reading e
+reading_of (scan.Number n f) = number_reading n
+reading_of (scan.Text t f) = text_reading t.place
+reading_of (scan.Assign a) = assign_reading a
+reading_of (scan.Control c) = Expanded
+
+-- the token behind one that is kept
+abbrev pub keeper_reading : Keeper → Reading
+keeper_reading keeper.ExpandAfter = Expanded
+keeper_reading (keeper.Future is_global name) = Plain
+
+-- in a text that is expanded protected macros stay
+abbrev pub unless_protected : Bool → Option Expandable → Option Expandable
+unless_protected true e = None
+unless_protected false e = e
+
+-- what is expanded of a token, where tokens are got so
+unfoldable pub wanted : Reading → Meaning → Option Expandable
+wanted Plain mm = None
+wanted Expanded mm = expandable_of mm
+wanted Text mm = unless_protected (is_protected mm) (expandable_of mm)

@@ -5,7 +5,8 @@ use Rattle.etx_matter.specs.declared.token.Token.{Token}
 use Rattle.etx_matter.specs.declared.token.Token.TheVariants.{Char, Name, Param}
 use Rattle.etx_prims.specs.declared.parameters.IntParam.TheVariants.{EscapeChar, NewLineChar}
 use Rattle.etx_state.specs.Values.{Values}
-use Rattle.etx_state.specs.States.{Mouth, category_in, int_in}
+use Rattle.etx_state.specs.Reading.{category_in, int_in}
+use Rattle.etx_state.specs.Rests.{RestState}
 
 -- a digit of 0123456789abcdef
 abbrev pub hex_digit : ℕ → ℕ
@@ -53,10 +54,10 @@ abbrev pub parameter_text : ℕ → List ℕ
 parameter_text n = 35 ∷ (if nat_lt n 10 then 48 + n else 33) ∷ []
 
 -- a token's own characters: a control sequence with the escape character, a character as it is
-unfoldable pub spelled : Mouth → Token → List ℕ
-spelled m (Char code cat) = code ∷ []
-spelled m (Name n) = escaped m.values (name_text m.names n.0)
-spelled m (Param n) = parameter_text n
+unfoldable pub spelled : RestState → Token → List ℕ
+spelled r (Char code cat) = code ∷ []
+spelled r (Name n) = escaped r.values (name_text r.names n.0)
+spelled r (Param n) = parameter_text n
 
 -- a name is followed by a space, unless it is one character that is no letter
 abbrev pub space_behind : Values → List ℕ → List ℕ
@@ -65,22 +66,22 @@ space_behind v (c ∷ []) = if category_in v c == 11 then 32 ∷ [] else []
 space_behind v (c ∷ d ∷ cs) = 32 ∷ []
 
 -- a token in a text: a parameter's character is doubled
-unfoldable pub token_text : Mouth → Token → List ℕ
-token_text m (Char code cat) = if cat == 6 then code ∷ code ∷ [] else code ∷ []
-token_text m (Name n) = escaped m.values (name_text m.names n.0) ++ space_behind m.values (name_text m.names n.0)
-token_text m (Param n) = parameter_text n
+unfoldable pub token_text : RestState → Token → List ℕ
+token_text r (Char code cat) = if cat == 6 then code ∷ code ∷ [] else code ∷ []
+token_text r (Name n) = escaped r.values (name_text r.names n.0) ++ space_behind r.values (name_text r.names n.0)
+token_text r (Param n) = parameter_text n
 
-abbrev pub tokens_text : Mouth → List Token → List ℕ
-tokens_text m [] = []
-tokens_text m (t ∷ ts) = token_text m t ++ tokens_text m ts
+abbrev pub tokens_text : RestState → List Token → List ℕ
+tokens_text r [] = []
+tokens_text r (t ∷ ts) = token_text r t ++ tokens_text r ts
 
 -- a text as it is said
-unfoldable pub said_text : Mouth → List Token → List ℕ
-said_text m ts = printed m.values (tokens_text m ts)
+unfoldable pub said_text : RestState → List Token → List ℕ
+said_text r ts = printed r.values (tokens_text r ts)
 
 -- a token's name in an error
-unfoldable pub shown_name : Mouth → Token → List ℕ
-shown_name m t = printed m.values (spelled m t)
+unfoldable pub shown_name : RestState → Token → List ℕ
+shown_name r t = printed r.values (spelled r t)
 
 -- characters as tokens: a space is a space, and all others are other characters
 abbrev pub character_token : ℕ → Token

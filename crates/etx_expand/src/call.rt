@@ -1,169 +1,161 @@
 //! Macro calls: what becomes of a token where the arguments of a macro are matched.
-ghost use Rattle.std.specs.Prelude.{◌≡◌, ◌+◌, ◌<◌, ◌≤◌, ◌^◌, ◌++◌, ◌∷◌, [], OnOk, IfOk, None};
-ghost use Rattle.etx_input.specs.declared.origin.Origin.TheVariants.{Fresh};
+ghost use Rattle.std.specs.Prelude.{◌≡◌, ◌++◌, ◌∷◌, [], true, false, OnOk, IfOk};
+ghost use Rattle.etx_macros.specs.Feeding.{fed_of, is_copied, unmatched};
 ghost use Rattle.etx_macros.specs.Substituting.{substituted};
-ghost use Rattle.etx_state.specs.States.{mouth_of};
-ghost use Rattle.etx_expand.specs.Calls.{naming, extra_row, call_failure, paragraph_row, refused_row, copies, call_turn, cut_off};
-ghost use Rattle.etx_expand.specs.Moves.{scanning, charged, read_next};
+ghost use Rattle.etx_state.specs.Rests.{rest_of};
+ghost use Rattle.etx_expand.specs.Answers.{quiet, insert_of};
+ghost use Rattle.etx_expand.specs.Calls.{call_scan, naming, extra_brace, paragraph_ended, does_not_match, refused, goes_on, is_over, fed_by, call_row, expansion_cut, cut_off};
 
-use crate::moves::{enter, make, read_list};
-use crate::plan::{Failure, Move, Push, Turned};
+use crate::answers::{fails, fails_back, fails_under, insert_tokens, quiet, used};
+use crate::plan::{Insert, Move, Plan};
 use crate::printing::push_name;
-use crate::row::{none, one};
-use etx_input::SharedTokens;
 use etx_lists::Bytes;
-use etx_macros::{Fed, MatchFault, Matcher, substitute};
-use etx_matter::{PAR, Token};
-use etx_state::{Entry, Macro, Scan, State};
+use etx_macros::{Fed, MatchFault, substitute};
+use etx_matter::{Boxed, PAR, Token};
+use etx_state::{Call, ExpansionScan, Rest, Scan};
 use std::alloc::AllocError;
 
-/// The text of an error that names the macro.
-fn name_call(s: &State, before: &[u8], name: Token, behind: &[u8]) -> Result<Bytes, AllocError>
-    ensures { IfOk result (λ text. text ≡ naming before.now name behind.now (mouth_of s.now)) }
+/// The scan of a call.
+fn scan_of(call: Boxed<Call>) -> Scan
+    ensures { result ≡ call_scan call }
 {
-    let mut text = Bytes::from_slice(s.alloc(), before)?;
-    push_name(s, &mut text, name)?;
+    Scan::Expansion(ExpansionScan::Call(call))
+}
+
+/// The text of an error that names the macro.
+fn name_call(rest: &Rest, before: &[u8], name: Token, behind: &[u8]) -> Result<Bytes, AllocError>
+    ensures { IfOk result (λ text. text ≡ naming before.now name behind.now (rest_of rest.now)) }
+{
+    let mut text = Bytes::from_slice(rest.alloc(), before)?;
+    push_name(rest, &mut text, name)?;
     text.extend_from_slice(behind)?;
     Ok(text)
 }
 
 /// A right brace that no left brace of the argument opens: `\par` is read before it, and the call goes on as that of a
 /// macro that isn't long.
-fn extra_row(
-    s: &State,
-    name: Token,
-    definition: Macro,
-    mut matcher: Matcher,
-) -> Result<Move, AllocError>
-    ensures { IfOk result (λ go. go ≡ extra_row name definition matcher (mouth_of s.now)) }
+fn extra_brace(rest: &Rest, call: Boxed<Call>) -> Result<Plan, AllocError>
+    ensures { IfOk result (λ p. p ≡ extra_brace call (rest_of rest.now)) }
 {
-    let text = name_call(s, b"Argument of ", name, b" has an extra }")?;
-    let inserted = one(s.alloc(), Token::Name(PAR))?;
-    matcher.break_off();
-    Ok(Move::Fails(Failure {
-        text,
-        scan: Some(Scan::Call {
-            name,
-            definition,
-            matcher,
-            is_cut: false,
-        }),
-        is_back: true,
-        inserted,
-    }))
+    let text = name_call(rest, b"Argument of ", call.get().name, b" has an extra }")?;
+    let scan = scan_of(broken_off(call));
+    fails_under(
+        rest.alloc(),
+        Token::Name(PAR),
+        text.as_slice(),
+        Move::Stay(scan),
+    )
 }
 
-/// An error that ends the call.
-fn call_failure(s: &State, text: Bytes, is_back: bool) -> Result<Move, AllocError>
-    ensures { IfOk result (λ go. go ≡ call_failure text is_back) }
+/// The call goes on behind an extra right brace.
+fn broken_off(mut call: Boxed<Call>) -> Boxed<Call>
+    ensures { result ≡ record call { matcher = unmatched call.matcher; is_cut = false } }
 {
-    let inserted = none(s.alloc())?;
-    Ok(Move::Fails(Failure {
-        text,
-        scan: None,
-        is_back,
-        inserted,
-    }))
+    let held = call.get_mut();
+    held.matcher.break_off();
+    held.is_cut = false;
+    call
 }
 
 /// The end of a paragraph ends the call, and is read again. A call that was cut off it ends without an error, and is gone.
-fn paragraph_row(s: &State, name: Token, is_cut: bool) -> Result<Move, AllocError>
-    ensures { IfOk result (λ go. go ≡ paragraph_row name is_cut (mouth_of s.now)) }
+fn paragraph_ended(rest: &Rest, is_cut: bool, name: Token) -> Result<Plan, AllocError>
+    ensures { IfOk result (λ p. p ≡ paragraph_ended is_cut name (rest_of rest.now)) }
 {
     if is_cut {
-        return Ok(Move::Used(Push::Nothing));
+        return Ok(quiet(used()));
     }
-    let text = name_call(s, b"Paragraph ended before ", name, b" was complete")?;
-    call_failure(s, text, true)
+    let text = name_call(rest, b"Paragraph ended before ", name, b" was complete")?;
+    fails_back(rest.alloc(), text.as_slice(), used())
 }
 
-/// Why no call goes on with a token. Before it is fed, an extra right brace is known to be that.
-fn refused_row(s: &State, fault: MatchFault, name: Token, is_cut: bool) -> Result<Move, AllocError>
-    ensures { IfOk result (λ go. go ≡ refused_row fault name is_cut (mouth_of s.now)) }
+fn does_not_match(rest: &Rest, name: Token) -> Result<Plan, AllocError>
+    ensures { IfOk result (λ p. p ≡ does_not_match name (rest_of rest.now)) }
+{
+    let text = name_call(rest, b"Use of ", name, b" doesn't match its definition")?;
+    fails(rest.alloc(), text.as_slice(), used())
+}
+
+/// Why no call goes on with a token.
+fn refused(rest: &Rest, fault: MatchFault, call: Boxed<Call>) -> Result<Plan, AllocError>
+    ensures { IfOk result (λ p. p ≡ refused fault call (rest_of rest.now)) }
 {
     match fault {
-        MatchFault::DoesNotMatch => {
-            let text = name_call(s, b"Use of ", name, b" doesn't match its definition")?;
-            call_failure(s, text, false)
-        }
-        MatchFault::ParagraphEnded => paragraph_row(s, name, is_cut),
-        MatchFault::ExtraBrace => Ok(Move::Used(Push::Nothing)),
+        MatchFault::DoesNotMatch => does_not_match(rest, call.get().name),
+        MatchFault::ParagraphEnded => paragraph_ended(rest, call.get().is_cut, call.get().name),
+        MatchFault::ExtraBrace => extra_brace(rest, call),
     }
 }
 
-/// A token that is copied into an argument is a step more.
-fn copies(matcher: &Matcher, token: Token) -> u64
-    ensures value { result ≡ copies matcher.now token }
-    ensures small { result ≤ 1 }
+/// A token that is copied is a step more.
+fn goes_on(is_copied: bool, scan: Scan) -> Move
+    ensures { result ≡ goes_on is_copied scan }
 {
-    if matcher.is_copied(token) { 1 } else { 0 }
+    if is_copied {
+        Move::Copied(scan)
+    } else {
+        Move::Stay(scan)
+    }
 }
 
-/// The call goes on.
-fn go_on(s: &mut State, copied: u64, call: Scan) -> Result<Turned, AllocError>
-    requires { s.old.spent + copied < 2 ^ 64 }
-    ensures now { OnOk result (mouth_of s.new ≡ scanning call (charged copied (mouth_of s.old))) }
-    ensures turned { IfOk result (λ t. t ≡ Turned.Again) }
+fn is_over(is_copied: bool, what: Insert) -> Move
+    ensures { result ≡ is_over is_copied what }
 {
-    s.spent += copied;
-    enter(s, Entry::Scan(call))?;
-    Ok(Turned::Again)
+    if is_copied {
+        Move::CopiedLast(what)
+    } else {
+        Move::Used(what)
+    }
 }
 
 /// The call is complete: it stands for the body with its arguments.
-fn end_call(
-    s: &mut State,
-    copied: u64,
-    definition: &Macro,
-    matcher: &Matcher,
-) -> Result<Turned, AllocError>
-    requires { s.old.spent + copied < 2 ^ 64 }
-    ensures now { OnOk result (mouth_of s.new ≡ read_next Fresh (substituted definition.now.body matcher.now.args) (charged copied (mouth_of s.old))) }
-    ensures turned { IfOk result (λ t. t ≡ Turned.Again) }
+fn end_call(rest: &Rest, call: &Call, is_copied: bool) -> Result<Plan, AllocError>
+    ensures { IfOk result (λ p. p ≡ quiet (is_over is_copied (insert_of (substituted call.now.definition.body call.now.matcher.args)))) }
 {
-    let alloc = s.alloc();
-    let text = substitute(alloc, definition.body().as_slice(), matcher.args())?;
-    let text = SharedTokens::new(alloc, text)?;
-    s.spent += copied;
-    read_list(s, text)?;
-    Ok(Turned::Again)
+    let alloc = rest.alloc();
+    let text = substitute(
+        alloc,
+        call.definition.body().as_slice(),
+        call.matcher.args(),
+    )?;
+    Ok(quiet(is_over(is_copied, insert_tokens(alloc, text)?)))
 }
 
 /// The call of a macro gets a token.
-#[tactic(auto, unfolding(crate::specs::Calls::call_turn))]
-pub(crate) fn feed_call(
-    s: &mut State,
-    name: Token,
-    definition: Macro,
-    mut matcher: Matcher,
-    is_cut: bool,
-    token: Token,
-) -> Result<Turned, AllocError>
-    requires { s.old.spent + 1 < 2 ^ 64 }
-    ensures now { OnOk result (mouth_of s.new ≡ (call_turn name definition matcher is_cut token (mouth_of s.old)).now) }
-    ensures turned { IfOk result (λ t. t ≡ (call_turn name definition matcher is_cut token (mouth_of s.old)).turned) }
+#[tactic(auto, unfolding(crate::specs::Calls::call_row))]
+pub(crate) fn call_row(rest: &Rest, mut call: Boxed<Call>, token: Token) -> Result<Plan, AllocError>
+    ensures { IfOk result (λ p. p ≡ call_row call token (rest_of rest.now)) }
 {
-    if matcher.is_extra(token) {
-        let go = extra_row(s, name, definition, matcher)?;
-        return make(s, token, go);
+    if call.get().matcher.is_extra(token) {
+        return extra_brace(rest, call);
     }
-    let copied = copies(&matcher, token);
-    match matcher.feed(token)? {
-        Fed::More => go_on(
-            s,
-            copied,
-            Scan::Call {
-                name,
-                definition,
-                matcher,
-                is_cut,
-            },
-        ),
-        Fed::Done => end_call(s, copied, &definition, &matcher),
-        Fed::Fault(fault) => {
-            let go = refused_row(s, fault, name, is_cut)?;
-            make(s, token, go)
-        }
+    let is_copied = call.get().matcher.is_copied(token);
+    match call.get_mut().matcher.feed(token)? {
+        Fed::More => Ok(quiet(goes_on(is_copied, scan_of(call)))),
+        Fed::Done => end_call(rest, call.get(), is_copied),
+        Fed::Fault(fault) => refused(rest, fault, call),
+    }
+}
+
+/// A call that is cut off goes on as that of a macro that isn't long.
+fn cut_call(mut call: Boxed<Call>) -> ExpansionScan
+    ensures { result ≡ expansion_cut (ExpansionScan.Call call) }
+{
+    let held = call.get_mut();
+    held.matcher.shorten();
+    held.is_cut = true;
+    ExpansionScan::Call(call)
+}
+
+fn cut_expansion(scan: ExpansionScan) -> ExpansionScan
+    ensures { result ≡ expansion_cut scan }
+{
+    match scan {
+        ExpansionScan::ExpandAfter => ExpansionScan::ExpandAfter,
+        ExpansionScan::NoExpand => ExpansionScan::NoExpand,
+        ExpansionScan::StringOf => ExpansionScan::StringOf,
+        ExpansionScan::CsName(name) => ExpansionScan::CsName(name),
+        ExpansionScan::Call(call) => cut_call(call),
+        ExpansionScan::Equals => ExpansionScan::Equals,
     }
 }
 
@@ -173,20 +165,10 @@ pub(crate) fn cut_off(scan: Scan) -> Scan
     ensures { result ≡ cut_off scan }
 {
     match scan {
-        Scan::Call {
-            name,
-            definition,
-            mut matcher,
-            is_cut: _was_cut,
-        } => {
-            matcher.shorten();
-            Scan::Call {
-                name,
-                definition,
-                matcher,
-                is_cut: true,
-            }
-        }
-        other => other,
+        Scan::Expansion(scan) => Scan::Expansion(cut_expansion(scan)),
+        Scan::Number { scan, finish } => Scan::Number { scan, finish },
+        Scan::Text { text, finish } => Scan::Text { text, finish },
+        Scan::Assign(scan) => Scan::Assign(scan),
+        Scan::Control(scan) => Scan::Control(scan),
     }
 }

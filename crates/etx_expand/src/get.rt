@@ -1,20 +1,21 @@
 //! How a token is got.
-ghost use Rattle.std.specs.Prelude.{◌≡◌, ◌+◌, ◌<◌, ◌≤◌, ◌^◌, ◌++◌, [], ◌∷◌, codes, MatchOption, OnOk, IfOk};
-ghost use Rattle.etx_state.specs.States.{mouth_of};
-ghost use Rattle.etx_expand.specs.Moves.{read_next, charge_of, error_deed};
+ghost use Rattle.std.specs.Prelude.{◌≡◌, ◌+◌, ◌≤◌, ◌++◌, [], ◌∷◌, codes, MatchOption, OnOk, IfOk};
+ghost use Rattle.std.specs.Option.{option_copied};
+ghost use Rattle.etx_state.specs.Rests.{rest_of};
+ghost use Rattle.etx_state.specs.Mouths.{mouth_of};
+ghost use Rattle.etx_expand.specs.Moves.{read_next, charge_of, charged};
 ghost use Rattle.etx_expand.specs.Printing.{shown_name};
-ghost use Rattle.etx_expand.specs.Getting.{watch_by, watch_at, watch_of, watched, ending_of, forbidden, file_ended, unexpanded, admitted, token_got, name_got, lexed_got, next_got, invalid_text, got_of};
+ghost use Rattle.etx_expand.specs.Getting.{expansion_watch, assign_watch, watch_by, watch_at, watch_of, watched_from, watched, ending_of, forbidden, file_ended, admitted, token_got, name_got, lexed_got, next_got, invalid_did, got_of};
 
-use crate::meaning::{is_expandable, is_outer};
-use crate::moves::{error_deed, put_back, read_one};
-use crate::plan::Turned;
+use crate::meaning::{is_outer, unexpanded};
+use crate::moves::{count, put_back, read_one};
+use crate::plan::{Did, Failure};
 use crate::printing::push_name;
 use etx_input::{Next, Origin};
 use etx_lexer::Lexed;
 use etx_lists::Bytes;
-use etx_matter::{End, FatalError, Limit, PAR, Token};
-use etx_prims::Primitive;
-use etx_state::{Capacity, Entry, Meaning, Scan, Scans, State};
+use etx_matter::{Boxed, End, FatalError, Limit, PAR, Token};
+use etx_state::{AssignScan, Capacity, Entries, Entry, ExpansionScan, Meaning, Rest, Scan, State};
 use std::alloc::AllocError;
 
 /// The right brace that ends a text.
@@ -42,23 +43,52 @@ pub enum Got {
     /// A token, and what it means.
     Token { token: Token, meaning: Meaning },
     /// No token, and the turn is over.
-    Over(Turned),
-    /// No token: an outer macro or the end of a file cuts the scan on top off, which is an error with this text.
+    Over(Did),
+    /// No token: an outer macro or the end of a file cuts the scan off, which is an error with this text.
     Cut(Bytes),
 }
 
 /// What a scan says of outer control sequences, if it says something.
+fn expansion_watch(scan: &ExpansionScan) -> Option<Watch>
+    ensures { MatchOption result ((others : Watch) → expansion_watch scan.now others ≡ others) (λ w. (others : Watch) → expansion_watch scan.now others ≡ w) }
+{
+    match scan {
+        ExpansionScan::ExpandAfter => None,
+        ExpansionScan::NoExpand => Some(Watch::Nothing),
+        ExpansionScan::StringOf => Some(Watch::Nothing),
+        ExpansionScan::CsName(_) => None,
+        ExpansionScan::Call(call) => Some(Watch::Matching(call.get().name)),
+        ExpansionScan::Equals => None,
+    }
+}
+
+fn assign_watch(scan: &AssignScan) -> Option<Watch>
+    ensures { MatchOption result ((others : Watch) → assign_watch scan.now others ≡ others) (λ w. (others : Watch) → assign_watch scan.now others ≡ w) }
+{
+    match scan {
+        AssignScan::Params(definition) => Some(Watch::Defining(definition.get().name)),
+        AssignScan::Body(definition) => Some(Watch::Defining(definition.get().name)),
+        AssignScan::Prefix(_) => None,
+        AssignScan::Name(_) => None,
+        AssignScan::LetEquals { .. } => None,
+        AssignScan::LetSpace { .. } => None,
+        AssignScan::LetToken { .. } => None,
+        AssignScan::FutureFirst { .. } => None,
+        AssignScan::AfterGroup => None,
+        AssignScan::AfterAssignment => None,
+    }
+}
+
+#[tactic(auto, unfolding(crate::specs::Getting::watch_by))]
 fn watch_by(scan: &Scan) -> Option<Watch>
     ensures { MatchOption result ((others : Watch) → watch_by scan.now others ≡ others) (λ w. (others : Watch) → watch_by scan.now others ≡ w) }
 {
     match scan {
-        Scan::NoExpand | Scan::StringOf => Some(Watch::Nothing),
-        Scan::Call { name, .. } => Some(Watch::Matching(*name)),
-        Scan::TextBrace { reader } => Some(Watch::Absorbing(*reader)),
-        Scan::Text { reader, .. } => Some(Watch::Absorbing(*reader)),
-        Scan::DefParams { definition, .. } => Some(Watch::Defining(definition.name)),
-        Scan::DefBody { definition, .. } => Some(Watch::Defining(definition.get().name)),
-        _ => None,
+        Scan::Expansion(scan) => expansion_watch(scan),
+        Scan::Number { .. } => None,
+        Scan::Text { text, .. } => Some(Watch::Absorbing(text.get().reader)),
+        Scan::Assign(scan) => assign_watch(scan),
+        Scan::Control(_) => None,
     }
 }
 
@@ -66,20 +96,21 @@ fn watch_at(entry: &Entry) -> Option<Watch>
     ensures { MatchOption result ((others : Watch) → watch_at entry.now others ≡ others) (λ w. (others : Watch) → watch_at entry.now others ≡ w) }
 {
     match entry {
-        Entry::Scan(scan) => watch_by(scan),
+        Entry::Scan { scan, .. } => watch_by(scan),
+        Entry::Given { .. } => None,
         Entry::Kept { .. } => None,
-        Entry::PutBack(_) => None,
-        Entry::Say { .. } => None,
+        Entry::Due(_) => None,
+        Entry::Say(_) => None,
     }
 }
 
-/// What the scans in progress say of outer control sequences: the innermost that says something decides.
+/// What the entries say of outer control sequences: the innermost scan that says something decides.
 #[tactic(auto, unfolding(crate::specs::Getting::watch_of))]
-fn find_watch(scans: &Scans) -> Watch
-    ensures { result ≡ watch_of scans.now }
+fn find_watch(entries: &Entries) -> Watch
+    ensures { result ≡ watch_of entries.now }
 {
-    for i in 0..scans.len() {
-        let Some(entry) = scans.at(i) else {
+    for i in 0..entries.len() {
+        let Some(entry) = entries.at(i) else {
             return Watch::Nothing;
         };
         if let Some(watch) = watch_at(entry) {
@@ -89,23 +120,36 @@ fn find_watch(scans: &Scans) -> Watch
     Watch::Nothing
 }
 
+/// The same, where a scan stands above them.
+fn watch_above(scan: Option<&Scan>, entries: &Entries) -> Watch
+    ensures { result ≡ watched_from (option_copied scan.entry) (watch_of entries.now) }
+{
+    match scan {
+        None => find_watch(entries),
+        Some(scan) => match watch_by(scan) {
+            None => find_watch(entries),
+            Some(watch) => watch,
+        },
+    }
+}
+
 /// Adds a phrase and the name of a control sequence.
-fn push_phrase(s: &State, text: &mut Bytes, phrase: &[u8], name: Token) -> Result<(), AllocError>
-    ensures { OnOk result (text.new ≡ text.old ++ (phrase.now ++ shown_name (mouth_of s.now) name)) }
+fn push_phrase(rest: &Rest, text: &mut Bytes, phrase: &[u8], name: Token) -> Result<(), AllocError>
+    ensures { OnOk result (text.new ≡ text.old ++ (phrase.now ++ shown_name (rest_of rest.now) name)) }
 {
     text.extend_from_slice(phrase)?;
-    push_name(s, text, name)
+    push_name(rest, text, name)
 }
 
 /// Adds what is read, as errors say it.
-fn push_watched(s: &State, text: &mut Bytes, watch: Watch) -> Result<(), AllocError>
-    ensures { OnOk result (text.new ≡ text.old ++ watched (mouth_of s.now) watch) }
+fn push_watched(rest: &Rest, text: &mut Bytes, watch: Watch) -> Result<(), AllocError>
+    ensures { OnOk result (text.new ≡ text.old ++ watched (rest_of rest.now) watch) }
 {
     match watch {
         Watch::Nothing => Ok(()),
-        Watch::Defining(name) => push_phrase(s, text, b"definition of ", name),
-        Watch::Absorbing(name) => push_phrase(s, text, b"text of ", name),
-        Watch::Matching(name) => push_phrase(s, text, b"use of ", name),
+        Watch::Defining(name) => push_phrase(rest, text, b"definition of ", name),
+        Watch::Absorbing(name) => push_phrase(rest, text, b"text of ", name),
+        Watch::Matching(name) => push_phrase(rest, text, b"use of ", name),
     }
 }
 
@@ -123,11 +167,11 @@ fn end_scan(s: &mut State, watch: Watch) -> Result<(), AllocError>
 }
 
 /// The text of an error that names the scan.
-fn report(s: &State, what: &[u8], watch: Watch) -> Result<Bytes, AllocError>
-    ensures { IfOk result (λ text. text ≡ what.now ++ watched (mouth_of s.now) watch) }
+fn report(rest: &Rest, what: &[u8], watch: Watch) -> Result<Bytes, AllocError>
+    ensures { IfOk result (λ text. text ≡ what.now ++ watched (rest_of rest.now) watch) }
 {
-    let mut text = Bytes::from_slice(s.alloc(), what)?;
-    push_watched(s, &mut text, watch)?;
+    let mut text = Bytes::from_slice(rest.alloc(), what)?;
+    push_watched(rest, &mut text, watch)?;
     Ok(text)
 }
 
@@ -138,7 +182,7 @@ fn forbid(s: &mut State, watch: Watch, token: Token) -> Result<Got, AllocError>
     ensures got { IfOk result (λ g. g ≡ (forbidden watch token (mouth_of s.old)).got) }
 {
     let text = report(
-        s,
+        &s.rest,
         b"Forbidden control sequence found while scanning ",
         watch,
     )?;
@@ -149,14 +193,19 @@ fn forbid(s: &mut State, watch: Watch, token: Token) -> Result<Got, AllocError>
 }
 
 /// A token is got, unless it is outer where that is forbidden.
-fn admit(s: &mut State, token: Token, meaning: Meaning) -> Result<Got, AllocError>
-    ensures now { OnOk result (mouth_of s.new ≡ (admitted (watch_of (mouth_of s.old).scans) token meaning (mouth_of s.old)).now) }
-    ensures got { IfOk result (λ g. g ≡ (admitted (watch_of (mouth_of s.old).scans) token meaning (mouth_of s.old)).got) }
+fn admit(
+    s: &mut State,
+    above: Option<&Scan>,
+    token: Token,
+    meaning: Meaning,
+) -> Result<Got, AllocError>
+    ensures now { OnOk result (mouth_of s.new ≡ (admitted (watched_from (option_copied above.entry) (watch_of (mouth_of s.old).entries)) token meaning (mouth_of s.old)).now) }
+    ensures got { IfOk result (λ g. g ≡ (admitted (watched_from (option_copied above.entry) (watch_of (mouth_of s.old).entries)) token meaning (mouth_of s.old)).got) }
 {
     if !is_outer(&meaning) {
         return Ok(Got::Token { token, meaning });
     }
-    let watch = find_watch(&s.scans);
+    let watch = watch_above(above, &s.entries);
     match watch {
         Watch::Nothing => Ok(Got::Token { token, meaning }),
         Watch::Defining(_) => forbid(s, watch, token),
@@ -165,26 +214,20 @@ fn admit(s: &mut State, token: Token, meaning: Meaning) -> Result<Got, AllocErro
     }
 }
 
-/// What a token means that isn't expanded this time.
-fn unexpanded(meaning: Meaning) -> Meaning
-    ensures { result ≡ unexpanded meaning }
-{
-    if is_expandable(&meaning) {
-        Meaning::Primitive(Primitive::Relax)
-    } else {
-        meaning
-    }
-}
-
 #[tactic(auto, unfolding(crate::specs::Getting::token_got))]
-fn take(s: &mut State, token: Token, origin: Origin) -> Result<Got, AllocError>
-    ensures now { OnOk result (mouth_of s.new ≡ (token_got token origin (mouth_of s.old)).now) }
-    ensures got { IfOk result (λ g. g ≡ (token_got token origin (mouth_of s.old)).got) }
+fn take(
+    s: &mut State,
+    above: Option<&Scan>,
+    token: Token,
+    origin: Origin,
+) -> Result<Got, AllocError>
+    ensures now { OnOk result (mouth_of s.new ≡ (token_got (watched_from (option_copied above.entry) (watch_of (mouth_of s.old).entries)) token origin (mouth_of s.old)).now) }
+    ensures got { IfOk result (λ g. g ≡ (token_got (watched_from (option_copied above.entry) (watch_of (mouth_of s.old).entries)) token origin (mouth_of s.old)).got) }
 {
-    let meaning = s.meaning_of(token)?;
+    let meaning = s.rest.meaning_of(token)?;
     match origin {
-        Origin::Fresh => admit(s, token, meaning),
-        Origin::Back => admit(s, token, meaning),
+        Origin::Fresh => admit(s, above, token, meaning),
+        Origin::Back => admit(s, above, token, meaning),
         Origin::Unexpanded => Ok(Got::Token {
             token,
             meaning: unexpanded(meaning),
@@ -194,112 +237,111 @@ fn take(s: &mut State, token: Token, origin: Origin) -> Result<Got, AllocError>
 
 /// A name of a file gets its number.
 #[tactic(auto, unfolding(crate::specs::Getting::name_got))]
-fn take_name(s: &mut State, name: &[u8]) -> Result<Got, AllocError>
-    ensures now { OnOk result (mouth_of s.new ≡ (name_got name.now (mouth_of s.old)).now) }
-    ensures got { IfOk result (λ g. g ≡ (name_got name.now (mouth_of s.old)).got) }
+fn take_name(s: &mut State, above: Option<&Scan>, name: &[u8]) -> Result<Got, AllocError>
+    ensures now { OnOk result (mouth_of s.new ≡ (name_got (watched_from (option_copied above.entry) (watch_of (mouth_of s.old).entries)) name.now (mouth_of s.old)).now) }
+    ensures got { IfOk result (λ g. g ≡ (name_got (watched_from (option_copied above.entry) (watch_of (mouth_of s.old).entries)) name.now (mouth_of s.old)).got) }
 {
-    match s.name(name) {
-        Ok(number) => take(s, Token::Name(number), Origin::Fresh),
+    match s.rest.name(name) {
+        Ok(number) => take(s, above, Token::Name(number), Origin::Fresh),
         Err(Capacity::Full(Limit::Names)) => {
-            Ok(Got::Over(Turned::End(End::Capacity(Limit::Names))))
+            Ok(Got::Over(Did::End(End::Capacity(Limit::Names))))
         }
         Err(_) => Err(AllocError),
     }
 }
 
-fn invalid(s: &State) -> Result<Got, AllocError>
-    ensures { IfOk result (λ g. g ≡ Got.Over (error_deed invalid_text (mouth_of s.now))) }
+fn invalid(rest: &Rest) -> Result<Got, AllocError>
+    ensures { IfOk result (λ g. g ≡ Got.Over invalid_did) }
 {
-    let text = Bytes::from_slice(s.alloc(), b"Text line contains an invalid character")?;
-    Ok(Got::Over(error_deed(s, text)))
+    let text = Bytes::from_slice(rest.alloc(), b"Text line contains an invalid character")?;
+    let failure = Failure {
+        text,
+        is_back: false,
+        inserted: None,
+    };
+    Ok(Got::Over(Did::Error(Boxed::new(rest.alloc(), failure)?)))
 }
 
 /// A token is a step; a character that is invalid is none.
 #[tactic(auto, unfolding(crate::specs::Getting::lexed_got))]
-fn take_lexed(s: &mut State, lexed: Lexed) -> Result<Got, AllocError>
-    requires { s.old.spent + 1 < 2 ^ 64 }
-    ensures now { OnOk result (mouth_of s.new ≡ (lexed_got lexed (mouth_of s.old)).now) }
-    ensures got { IfOk result (λ g. g ≡ (lexed_got lexed (mouth_of s.old)).got) }
+fn take_lexed(s: &mut State, above: Option<&Scan>, lexed: Lexed) -> Result<Got, AllocError>
+    ensures now { OnOk result (mouth_of s.new ≡ (lexed_got (watched_from (option_copied above.entry) (watch_of (mouth_of s.old).entries)) lexed (mouth_of s.old)).now) }
+    ensures got { IfOk result (λ g. g ≡ (lexed_got (watched_from (option_copied above.entry) (watch_of (mouth_of s.old).entries)) lexed (mouth_of s.old)).got) }
 {
     match lexed {
         Lexed::Char { code, cat } => {
-            s.spent += 1;
-            take(s, Token::Char { code, cat }, Origin::Fresh)
+            count(s)?;
+            take(s, above, Token::Char { code, cat }, Origin::Fresh)
         }
         Lexed::Name(name) => {
-            s.spent += 1;
-            take_name(s, name.as_slice())
+            count(s)?;
+            take_name(s, above, name.as_slice())
         }
-        Lexed::Invalid(_) => invalid(s),
+        Lexed::Invalid(_) => invalid(&s.rest),
         Lexed::LineEnd => {
-            s.spent += 1;
-            Ok(Got::Over(Turned::Again))
+            count(s)?;
+            Ok(Got::Over(Did::Nothing))
         }
-    }
-}
-
-/// A file is over: in the midst of a scan that is an error, and the scan gets what ends it.
-fn end_file(s: &mut State) -> Result<Got, AllocError>
-    ensures now { OnOk result (mouth_of s.new ≡ (file_ended (watch_of (mouth_of s.old).scans) (mouth_of s.old)).now) }
-    ensures got { IfOk result (λ g. g ≡ (file_ended (watch_of (mouth_of s.old).scans) (mouth_of s.old)).got) }
-{
-    let watch = find_watch(&s.scans);
-    match watch {
-        Watch::Nothing => Ok(Got::Over(Turned::Again)),
-        Watch::Defining(_) => cut_short(s, watch),
-        Watch::Absorbing(_) => cut_short(s, watch),
-        Watch::Matching(_) => cut_short(s, watch),
     }
 }
 
 /// A scan gets what ends it, since the file ended.
 fn cut_short(s: &mut State, watch: Watch) -> Result<Got, AllocError>
     ensures now { OnOk result (mouth_of s.new ≡ read_next Origin.Fresh (ending_of watch) (mouth_of s.old)) }
-    ensures got { IfOk result (λ g. g ≡ Got.Cut (codes "File ended while scanning " ++ watched (mouth_of s.old) watch)) }
+    ensures got { IfOk result (λ g. g ≡ Got.Cut (codes "File ended while scanning " ++ watched (mouth_of s.old).rest watch)) }
 {
-    let text = report(s, b"File ended while scanning ", watch)?;
+    let text = report(&s.rest, b"File ended while scanning ", watch)?;
     end_scan(s, watch)?;
     Ok(Got::Cut(text))
 }
 
-/// How many steps a token is.
-fn charge(origin: Origin) -> u64
-    ensures value { result ≡ charge_of origin }
-    ensures small { result ≤ 1 }
+/// A file is over: in the midst of a scan that is an error, and the scan gets what ends it.
+fn end_file(s: &mut State, above: Option<&Scan>) -> Result<Got, AllocError>
+    ensures now { OnOk result (mouth_of s.new ≡ (file_ended (watched_from (option_copied above.entry) (watch_of (mouth_of s.old).entries)) (mouth_of s.old)).now) }
+    ensures got { IfOk result (λ g. g ≡ (file_ended (watched_from (option_copied above.entry) (watch_of (mouth_of s.old).entries)) (mouth_of s.old)).got) }
 {
-    match origin {
-        Origin::Fresh => 1,
-        Origin::Back => 0,
-        Origin::Unexpanded => 0,
+    let watch = watch_above(above, &s.entries);
+    match watch {
+        Watch::Nothing => Ok(Got::Over(Did::Nothing)),
+        Watch::Defining(_) => cut_short(s, watch),
+        Watch::Absorbing(_) => cut_short(s, watch),
+        Watch::Matching(_) => cut_short(s, watch),
     }
 }
 
-fn take_next(s: &mut State, next: Next) -> Result<Got, AllocError>
-    requires { s.old.spent + 1 < 2 ^ 64 }
-    ensures now { OnOk result (mouth_of s.new ≡ (next_got next (mouth_of s.old)).now) }
-    ensures got { IfOk result (λ g. g ≡ (next_got next (mouth_of s.old)).got) }
+/// Charges what a token of a list is.
+fn charge(s: &mut State, origin: Origin) -> Result<(), AllocError>
+    ensures { OnOk result (mouth_of s.new ≡ charged (charge_of origin) (mouth_of s.old)) }
+{
+    match origin {
+        Origin::Fresh => count(s),
+        Origin::Back => Ok(()),
+        Origin::Unexpanded => Ok(()),
+    }
+}
+
+fn take_next(s: &mut State, above: Option<&Scan>, next: Next) -> Result<Got, AllocError>
+    ensures now { OnOk result (mouth_of s.new ≡ (next_got (watched_from (option_copied above.entry) (watch_of (mouth_of s.old).entries)) next (mouth_of s.old)).now) }
+    ensures got { IfOk result (λ g. g ≡ (next_got (watched_from (option_copied above.entry) (watch_of (mouth_of s.old).entries)) next (mouth_of s.old)).got) }
 {
     match next {
         Next::Listed { token, origin } => {
-            s.spent += charge(origin);
-            take(s, token, origin)
+            charge(s, origin)?;
+            take(s, above, token, origin)
         }
-        Next::Lexed(lexed) => take_lexed(s, lexed),
-        Next::FileEnd => end_file(s),
-        Next::Over => Ok(Got::Over(Turned::End(End::Fatal(FatalError::NoLegalEnd)))),
+        Next::Lexed(lexed) => take_lexed(s, above, lexed),
+        Next::FileEnd => end_file(s, above),
+        Next::Over => Ok(Got::Over(Did::End(End::Fatal(FatalError::NoLegalEnd)))),
     }
 }
 
-/// Gets what is next: a token with its meaning, or none, and the turn is over. After an `Err` the state is only dropped.
+/// Gets what is next: a token with its meaning, or none, and the turn is over. `above`: the scan that gets it, which stands on
+/// the stack no more. After an `Err` the state is only dropped.
 #[tactic(auto, unfolding(crate::specs::Getting::got_of))]
-pub(crate) fn get(s: &mut State) -> Result<Got, AllocError>
-    requires { s.old.spent + 1 < 2 ^ 64 }
-    ensures now { OnOk result (mouth_of s.new ≡ (got_of (mouth_of s.old)).now) }
-    ensures got { IfOk result (λ g. g ≡ (got_of (mouth_of s.old)).got) }
-    ensures charged { OnOk result (s.new.spent ≤ s.old.spent + 1) }
-    ensures scans { OnOk result (s.new.scans ≡ s.old.scans) }
+pub(crate) fn get(s: &mut State, above: Option<&Scan>) -> Result<Got, AllocError>
+    ensures now { OnOk result (mouth_of s.new ≡ (got_of (watched_from (option_copied above.entry) (watch_of (mouth_of s.old).entries)) (mouth_of s.old)).now) }
+    ensures got { IfOk result (λ g. g ≡ (got_of (watched_from (option_copied above.entry) (watch_of (mouth_of s.old).entries)) (mouth_of s.old)).got) }
 {
     let next = s.next()?;
-    let got = take_next(s, next)?;
-    Ok(got)
+    take_next(s, above, next)
 }

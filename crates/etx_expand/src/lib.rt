@@ -1,25 +1,40 @@
-//! Expansion: one turn of the mouth's machine.
+//! Expansion, and the interpreter of the mouth's machine.
 //!
-//! The mouth is an explicit machine. What it is in the middle of stands on a stack in its state; [`turn`] handles one
-//! token for what is on top, and [`want`] puts a wish there. What becomes of a token is decided by rows, which answer a
-//! [`Move`] as data, and [`make`] alone carries moves out. The rules are those of "TeX: The Program", sections 332 to
-//! 405 and 464 to 478.
+//! The mouth is an explicit machine. What it is in the middle of stands on a stack of entries. A turn takes the entry on top
+//! off, and handles one token or one value for it. What becomes of that is decided by rows, which answer data
+//! ([`Plan`], [`Start`], [`Ended`]), and the interpreter ([`make`], [`begin`], [`follow`]) carries it out. The rules are those of "TeX: The
+//! Program", sections 332 to 405 and 464 to 478.
 #![tactic(auto)]
 
+mod answers;
 mod call;
+mod expand;
+mod fetch;
 mod get;
+mod law;
 mod meaning;
 mod moves;
+mod names;
+mod numbers;
 mod plan;
 mod printing;
-mod row;
-// (The tests of expansion are jobs: those of `etx_job`, which
-// run each row under the main loop.)
+mod texts;
 mod turns;
 
-pub use meaning::{Reading, is_expandable};
-pub use moves::{make, put_back, read_one};
-pub use plan::{Failure, Move, Push, Turned, Value, Want};
+pub use answers::{
+    ends, fails, fails_back, fails_before, fails_under, finished, insert_token, insert_tokens,
+    nothing, plan_of, quiet, start_ends, start_fails, start_fails_back, start_fails_under,
+    starting, used, value_ends,
+};
+pub use expand::{expansion_begun, is_plain};
+pub use fetch::{Fetched, Idle, expand_token, fetch_behind, fetch_command, fetch_for, go_idle};
+pub use law::{a_call_is_read_as_its_body, each_turn_goes_on};
+pub use meaning::{Expandable, expandable_of, has_category, is_relax};
+pub use moves::{begin, do_alone, enter, error_deed, follow, insert_if, make, put_back, read_one};
+pub use numbers::is_other;
+pub use plan::{Did, Ended, Failure, Insert, Move, Plan, Push, Start, Then, Turned};
 pub use printing::{push_escaped, push_name, push_printed, said_text};
-pub use row::{Brace, brace_of, has_category};
-pub use turns::{turn, want};
+pub use texts::text_for;
+pub use turns::{
+    put_both_back, take_expansion, take_number, take_text, turn_due, turn_expand_after, turn_say,
+};

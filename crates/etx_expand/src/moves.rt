@@ -1,15 +1,29 @@
-//! The interpreter of moves.
-ghost use Rattle.std.specs.Prelude.{◌≡◌, ◌+◌, ◌<◌, ◌^◌, ◌∷◌, [], Ok, OnOk, IfOk};
-ghost use Rattle.etx_state.specs.States.{mouth_of, group_ended};
-ghost use Rattle.etx_expand.specs.Moves.{charged, put_back, read_next, entered, scanning, pushed, scanning_on, back_if, failed, made, outcome, error_deed};
+//! The interpreter of answers. It alone reaches the input, the stack and the count of steps.
+ghost use Rattle.std.specs.Prelude.{◌≡◌, ◌+◌, ◌<◌, ◌^◌, ◌∷◌, [], OnOk, IfOk};
+ghost use Rattle.etx_state.specs.Mouths.{mouth_of};
+ghost use Rattle.etx_expand.specs.Answers.{reading};
+ghost use Rattle.etx_expand.specs.Moves.{charged, put_back, read_next, entered, scanning, inserted, back_if, insert_if, failed, beside, beside_value, error_deed, turned_by, made, planned_turn, pushed, begun_turn, more, followed, finished_turn};
 
-use crate::plan::{Failure, Move, Push, Turned};
-use etx_groups::{NoGroup, end};
-use etx_input::{Origin, SharedTokens};
+use crate::plan::{Did, Ended, Failure, Insert, Move, Plan, Push, Start, Then, Turned};
+use etx_input::Origin;
 use etx_lists::Bytes;
-use etx_matter::{Audience, Deed, Token};
-use etx_state::{Entry, Keeper, Scan, State};
+use etx_matter::{Audience, Boxed, Deed, SharedTokens, Token};
+use etx_state::{Entry, Scan, State};
 use std::alloc::AllocError;
+
+/// How often a programme may go on for nothing that a token began.
+const MOST_STAGES: u8 = 7;
+
+/// Counts a step. A count that has no room in 64 bits is refused as memory is.
+pub(crate) fn count(s: &mut State) -> Result<(), AllocError>
+    ensures { OnOk result (mouth_of s.new ≡ charged 1 (mouth_of s.old)) }
+{
+    if s.spent == u64::MAX {
+        return Err(AllocError);
+    }
+    s.spent += 1;
+    Ok(())
+}
 
 /// Puts a token back. After an `Err` the state is only dropped.
 pub fn put_back(s: &mut State, token: Token) -> Result<(), AllocError>
@@ -28,58 +42,36 @@ pub fn read_one(s: &mut State, token: Token, origin: Origin) -> Result<(), Alloc
 }
 
 /// Reads a list before all else.
-pub(crate) fn read_list(s: &mut State, tokens: SharedTokens) -> Result<(), AllocError>
+fn read_list(s: &mut State, tokens: SharedTokens) -> Result<(), AllocError>
     ensures { OnOk result (mouth_of s.new ≡ read_next Origin.Fresh tokens (mouth_of s.old)) }
 {
     s.input.push_shared(tokens, Origin::Fresh)?;
     Ok(())
 }
 
-/// Puts something on the stack.
-pub(crate) fn enter(s: &mut State, entry: Entry) -> Result<(), AllocError>
+/// Puts something on the stack. After an `Err` the state is only dropped.
+pub fn enter(s: &mut State, entry: Entry) -> Result<(), AllocError>
     ensures { OnOk result (mouth_of s.new ≡ entered entry (mouth_of s.old)) }
 {
-    s.scans.push(entry)?;
+    s.entries.push(entry)?;
     Ok(())
 }
 
-/// The innermost group ends. Rows ask for it only where one is open; where none is, nothing happens.
-#[tactic(auto, using(crate::proofs::Groups::no_group))]
-fn end_group(s: &mut State) -> Result<(), AllocError>
-    ensures { OnOk result (mouth_of s.new ≡ group_ended (mouth_of s.old)) }
+/// Puts a scan on the stack whose programme may go on so often for nothing.
+pub(crate) fn enter_scan(s: &mut State, left: u8, scan: Scan) -> Result<(), AllocError>
+    ensures { OnOk result (mouth_of s.new ≡ scanning left scan (mouth_of s.old)) }
 {
-    match end(s) {
-        Ok(_) => Ok(()),
-        Err(NoGroup::Outermost) => Ok(()),
-        Err(NoGroup::OutOfMemory) => Err(AllocError),
-    }
+    enter(s, Entry::Scan { left, scan })
 }
 
-#[tactic(auto, unfolding(crate::specs::Moves::pushed))]
-fn push(s: &mut State, what: Push) -> Result<(), AllocError>
-    ensures { OnOk result (mouth_of s.new ≡ pushed what (mouth_of s.old)) }
+#[tactic(auto, unfolding(crate::specs::Moves::inserted))]
+fn insert(s: &mut State, what: Insert) -> Result<(), AllocError>
+    ensures { OnOk result (mouth_of s.new ≡ inserted what (mouth_of s.old)) }
 {
     match what {
-        Push::Nothing => Ok(()),
-        Push::Begin(scan) => enter(s, Entry::Scan(scan)),
-        Push::Text(tokens) => read_list(s, tokens),
-        Push::GroupEnd => end_group(s),
-        Push::Say(text) => enter(
-            s,
-            Entry::Say {
-                text,
-                is_parted: false,
-            },
-        ),
-    }
-}
-
-fn go_on(s: &mut State, scan: Option<Scan>) -> Result<(), AllocError>
-    ensures { OnOk result (mouth_of s.new ≡ scanning_on scan (mouth_of s.old)) }
-{
-    match scan {
-        None => Ok(()),
-        Some(scan) => enter(s, Entry::Scan(scan)),
+        Insert::Nothing => Ok(()),
+        Insert::Token(token) => read_one(s, token, Origin::Fresh),
+        Insert::Text(tokens) => read_list(s, tokens),
     }
 }
 
@@ -89,85 +81,210 @@ fn put_back_if(s: &mut State, is_back: bool, token: Token) -> Result<(), AllocEr
     if is_back { put_back(s, token) } else { Ok(()) }
 }
 
-/// An error, with the number of the line that was read last.
-pub(crate) fn error_deed(s: &State, text: Bytes) -> Turned
-    ensures { result ≡ error_deed text (mouth_of s.now) }
+/// A token that may be there is read next. After an `Err` the state is only dropped.
+pub fn insert_if(s: &mut State, token: Option<Token>) -> Result<(), AllocError>
+    ensures { OnOk result (mouth_of s.new ≡ insert_if token (mouth_of s.old)) }
 {
-    Turned::Deed(Deed::Error {
+    match token {
+        None => Ok(()),
+        Some(token) => read_one(s, token, Origin::Fresh),
+    }
+}
+
+/// An error, with the number of the line that was read last. After an `Err` the state is only dropped.
+pub fn error_deed(s: &State, text: Bytes) -> Result<Turned, AllocError>
+    ensures { IfOk result (λ t. t ≡ error_deed text (mouth_of s.now)) }
+{
+    let deed = Deed::Error {
         text,
         line: s.input.line(),
         audience: Audience::LogAndTerminal,
-    })
+    };
+    Ok(Turned::Deed(Boxed::new(s.alloc(), deed)?))
 }
 
-#[tactic(auto, unfolding(crate::specs::Moves::failed))]
+/// An error is reported about a token, which is read again if it says so.
 fn fail(s: &mut State, token: Token, failure: Failure) -> Result<Turned, AllocError>
     ensures now { OnOk result (mouth_of s.new ≡ failed token failure (mouth_of s.old)) }
     ensures turned { IfOk result (λ t. t ≡ error_deed failure.text (mouth_of s.old)) }
 {
     let Failure {
         text,
-        scan,
         is_back,
         inserted,
     } = failure;
-    let report = error_deed(s, text);
-    go_on(s, scan)?;
+    let report = error_deed(s, text)?;
     put_back_if(s, is_back, token)?;
-    read_list(s, inserted)?;
+    insert_if(s, inserted)?;
     Ok(report)
 }
 
-/// The token is copied by a scan, which goes on. A copy is a step.
-fn copy(s: &mut State, scan: Scan) -> Result<(), AllocError>
-    requires { s.old.spent + 1 < 2 ^ 64 }
-    ensures { OnOk result (mouth_of s.new ≡ charged 1 (scanning scan (mouth_of s.old))) }
+/// An error is reported about no token.
+fn fail_value(s: &mut State, failure: Failure) -> Result<Turned, AllocError>
+    ensures now { OnOk result (mouth_of s.new ≡ insert_if failure.inserted (mouth_of s.old)) }
+    ensures turned { IfOk result (λ t. t ≡ error_deed failure.text (mouth_of s.old)) }
 {
-    s.spent += 1;
-    enter(s, Entry::Scan(scan))
+    let Failure {
+        text,
+        is_back: _is_back,
+        inserted,
+    } = failure;
+    let report = error_deed(s, text)?;
+    insert_if(s, inserted)?;
+    Ok(report)
 }
 
-fn stay(s: &mut State, scan: Scan, what: Push) -> Result<(), AllocError>
-    ensures { OnOk result (mouth_of s.new ≡ pushed what (scanning scan (mouth_of s.old))) }
+/// What is done beside, about a token.
+#[tactic(auto, unfolding(crate::specs::Moves::beside, crate::specs::Moves::turned_by))]
+fn do_beside(s: &mut State, token: Token, did: Did) -> Result<Turned, AllocError>
+    ensures now { OnOk result (mouth_of s.new ≡ beside token did (mouth_of s.old)) }
+    ensures turned { IfOk result (λ t. t ≡ turned_by did (mouth_of s.old)) }
 {
-    enter(s, Entry::Scan(scan))?;
-    push(s, what)
+    match did {
+        Did::Nothing => Ok(Turned::Again),
+        Did::Deed(deed) => Ok(Turned::Deed(deed)),
+        Did::Error(failure) => fail(s, token, failure.into_inner()),
+        Did::End(end) => Ok(Turned::End(end)),
+    }
 }
 
-fn put_back_under(s: &mut State, token: Token, upper: Token) -> Result<(), AllocError>
-    ensures { OnOk result (mouth_of s.new ≡ read_next Origin.Fresh (upper ∷ []) (put_back token (mouth_of s.old))) }
+/// What is done beside, about no token.
+#[tactic(auto, unfolding(crate::specs::Moves::beside_value, crate::specs::Moves::turned_by))]
+fn do_beside_value(s: &mut State, did: Did) -> Result<Turned, AllocError>
+    ensures now { OnOk result (mouth_of s.new ≡ beside_value did (mouth_of s.old)) }
+    ensures turned { IfOk result (λ t. t ≡ turned_by did (mouth_of s.old)) }
+{
+    match did {
+        Did::Nothing => Ok(Turned::Again),
+        Did::Deed(deed) => Ok(Turned::Deed(deed)),
+        Did::Error(failure) => fail_value(s, failure.into_inner()),
+        Did::End(end) => Ok(Turned::End(end)),
+    }
+}
+
+/// What is done where no token was got. After an `Err` the state is only dropped.
+#[tactic(auto, unfolding(crate::specs::Moves::turned_by))]
+pub fn do_alone(s: &State, did: Did) -> Result<Turned, AllocError>
+    ensures { IfOk result (λ t. t ≡ turned_by did (mouth_of s.now)) }
+{
+    match did {
+        Did::Nothing => Ok(Turned::Again),
+        Did::Deed(deed) => Ok(Turned::Deed(deed)),
+        Did::Error(failure) => {
+            let Failure {
+                text,
+                is_back: _is_back,
+                inserted: _inserted,
+            } = failure.into_inner();
+            error_deed(s, text)
+        }
+        Did::End(end) => Ok(Turned::End(end)),
+    }
+}
+
+fn copy(s: &mut State, left: u8, scan: Scan) -> Result<(), AllocError>
+    ensures { OnOk result (mouth_of s.new ≡ charged 1 (scanning left scan (mouth_of s.old))) }
+{
+    count(s)?;
+    enter_scan(s, left, scan)
+}
+
+fn copy_last(s: &mut State, what: Insert) -> Result<(), AllocError>
+    ensures { OnOk result (mouth_of s.new ≡ charged 1 (inserted what (mouth_of s.old))) }
+{
+    insert(s, what)?;
+    count(s)
+}
+
+fn give_back(s: &mut State, token: Token, entry: Entry) -> Result<(), AllocError>
+    ensures { OnOk result (mouth_of s.new ≡ entered entry (put_back token (mouth_of s.old))) }
 {
     put_back(s, token)?;
-    read_one(s, upper, Origin::Fresh)
+    enter(s, entry)
 }
 
-/// The turn goes on, if there was memory.
-fn again(done: Result<(), AllocError>) -> Result<Turned, AllocError>
-    ensures ok { OnOk result (done ≡ Ok tt) }
-    ensures again { IfOk result (λ t. t ≡ Turned.Again) }
-{
-    match done {
-        Ok(()) => Ok(Turned::Again),
-        Err(error) => Err(error),
-    }
-}
-
-/// Carries a move out; `token` is the one that the scan got. After an `Err` the state is only dropped.
+/// What becomes of a scan and its token.
 #[tactic(auto, unfolding(crate::specs::Moves::made))]
-pub fn make(s: &mut State, token: Token, go: Move) -> Result<Turned, AllocError>
-    requires { s.old.spent + 1 < 2 ^ 64 }
-    ensures now { OnOk result (mouth_of s.new ≡ made token go (mouth_of s.old)) }
-    ensures turned { IfOk result (λ t. t ≡ outcome go (mouth_of s.old)) }
+fn go(s: &mut State, left: u8, token: Token, go: Move) -> Result<(), AllocError>
+    ensures { OnOk result (mouth_of s.new ≡ made left token go (mouth_of s.old)) }
 {
     match go {
-        Move::Used(what) => again(push(s, what)),
-        Move::Stay(scan, what) => again(stay(s, scan, what)),
-        Move::Copied(scan) => again(copy(s, scan)),
-        Move::Back => again(put_back(s, token)),
-        Move::BackUnder(upper) => again(put_back_under(s, token, upper)),
-        Move::Hold(by) => again(enter(s, Entry::Kept { token, by })),
-        Move::Unexpanded => again(read_one(s, token, Origin::Unexpanded)),
-        Move::Fails(failure) => fail(s, token, failure),
-        Move::Ends(end) => Ok(Turned::End(end)),
+        Move::Used(what) => insert(s, what),
+        Move::Begin(scan) => enter_scan(s, MOST_STAGES, scan),
+        Move::Stay(scan) => enter_scan(s, left, scan),
+        Move::Copied(scan) => copy(s, left, scan),
+        Move::CopiedLast(what) => copy_last(s, what),
+        Move::Back => put_back(s, token),
+        Move::Gives(value) => enter(s, Entry::Given { left, value }),
+        Move::GivesBack(value) => give_back(s, token, Entry::Given { left, value }),
+        Move::Hold(by) => enter(s, Entry::Kept { token, by }),
+        Move::Unexpanded => read_one(s, token, Origin::Unexpanded),
     }
+}
+
+/// Carries out what a scan's row decided of a token; the row has changed the rest. After an `Err` the state is only dropped.
+pub fn make(s: &mut State, left: u8, token: Token, plan: Plan) -> Result<Turned, AllocError>
+    ensures now { OnOk result (mouth_of s.new ≡ (planned_turn left token (reading plan (mouth_of s.old).rest) (mouth_of s.old)).now) }
+    ensures turned { IfOk result (λ t. t ≡ (planned_turn left token (reading plan (mouth_of s.old).rest) (mouth_of s.old)).turned) }
+{
+    go(s, left, token, plan.go)?;
+    do_beside(s, token, plan.did)
+}
+
+#[tactic(auto, unfolding(crate::specs::Moves::pushed))]
+fn push(s: &mut State, what: Push) -> Result<(), AllocError>
+    ensures { OnOk result (mouth_of s.new ≡ pushed what (mouth_of s.old)) }
+{
+    match what {
+        Push::Insert(what) => insert(s, what),
+        Push::Begin(scan) => enter_scan(s, MOST_STAGES, scan),
+    }
+}
+
+/// Begins what a token begins; its row has changed the rest. After an `Err` the state is only dropped.
+pub fn begin(s: &mut State, token: Token, start: Start) -> Result<Turned, AllocError>
+    ensures now { OnOk result (mouth_of s.new ≡ (begun_turn token (record { rest = (mouth_of s.old).rest; start = start }) (mouth_of s.old)).now) }
+    ensures turned { IfOk result (λ t. t ≡ (begun_turn token (record { rest = (mouth_of s.old).rest; start = start }) (mouth_of s.old)).turned) }
+{
+    push(s, start.push)?;
+    do_beside(s, token, start.did)
+}
+
+/// A programme goes on.
+fn go_on(s: &mut State, left: u8, scan: Scan) -> Result<(), AllocError>
+    ensures { OnOk result (mouth_of s.new ≡ more left scan (mouth_of s.old)) }
+{
+    if left == 0 {
+        return copy(s, 0, scan);
+    }
+    enter_scan(s, left - 1, scan)
+}
+
+fn go_on_behind(s: &mut State, left: u8, first: Scan, scan: Scan) -> Result<(), AllocError>
+    ensures { OnOk result (mouth_of s.new ≡ scanning 0 first (more left scan (mouth_of s.old))) }
+{
+    go_on(s, left, scan)?;
+    enter_scan(s, 0, first)
+}
+
+#[tactic(auto, unfolding(crate::specs::Moves::followed))]
+fn follow_with(s: &mut State, left: u8, then: Then) -> Result<(), AllocError>
+    ensures { OnOk result (mouth_of s.new ≡ followed left then (mouth_of s.old)) }
+{
+    match then {
+        Then::Insert(what) => insert(s, what),
+        Then::More(scan) => go_on(s, left, scan),
+        Then::MoreBehind(first, scan) => go_on_behind(s, left, first, scan),
+        Then::Say(text) => enter(s, Entry::Say(text)),
+    }
+}
+
+/// Carries out what a finisher decided, whose programme may go on so often for nothing; it has changed the rest. After an `Err`
+/// the state is only dropped.
+pub fn follow(s: &mut State, left: u8, ended: Ended) -> Result<Turned, AllocError>
+    ensures now { OnOk result (mouth_of s.new ≡ (finished_turn left (record { rest = (mouth_of s.old).rest; ended = ended }) (mouth_of s.old)).now) }
+    ensures turned { IfOk result (λ t. t ≡ (finished_turn left (record { rest = (mouth_of s.old).rest; ended = ended }) (mouth_of s.old)).turned) }
+{
+    follow_with(s, left, ended.then)?;
+    do_beside_value(s, ended.did)
 }

@@ -1,86 +1,116 @@
-//! What is decided of a token. A row of the machine answers a [`Move`], and one interpreter carries it out: so no row
-//! touches the input, the stack of scans or the count of steps, and none can go round for free.
-use etx_input::SharedTokens;
+//! What rows decide. Each answers it as data, and one interpreter (`moves.rs`) carries it out: so no row touches the input, the
+//! stack or the count of steps, and none can go round for nothing.
+//!
+//! There are three kinds of rows, each with an answer of its own. A scan's row gets a token and answers a [`Plan`]. What main
+//! control or expansion begins with a token is a [`Start`], which can't keep the token. A finisher gets a value and answers
+//! what comes [`Then`], in an [`Ended`].
 use etx_lists::Bytes;
-use etx_matter::{Deed, End, Token, Tokens};
-use etx_state::{Keeper, Meaning, Scan};
+use etx_matter::{Boxed, Deed, End, SharedTokens, Token};
+use etx_state::{Keeper, Scan, Value};
 
-/// What comes on top where a token is used up.
+/// What is read next.
 #[derive(Drop)]
-pub enum Push {
+pub enum Insert {
     Nothing,
-    /// A scan begins.
-    Begin(Scan),
-    /// This text is read next.
+    /// This token, as a fresh one.
+    Token(Token),
+    /// These tokens, as fresh ones.
     Text(SharedTokens),
-    /// The innermost group ends, and the tokens that were noted in it are read next.
-    GroupEnd,
-    /// This text is said next, parted by a space from what stands on the line.
-    Say(Bytes),
 }
 
-/// An error, and how the mouth goes on after it.
+/// An error, and what is read after it. The token that a row was given may be read again, and a fresh one before it.
 #[derive(Drop)]
 pub struct Failure {
     pub text: Bytes,
-    /// The scan that goes on, if one does.
-    pub scan: Option<Scan>,
-    /// Whether the token is read again.
+    /// Whether the token is read again. (A finisher was given none.)
     pub is_back: bool,
-    /// What is read before it.
-    pub inserted: SharedTokens,
+    pub inserted: Option<Token>,
+}
+
+/// What is done beside.
+#[derive(Drop)]
+pub enum Did {
+    Nothing,
+    /// This is done to the outside.
+    Deed(Boxed<Deed>),
+    /// An error is reported.
+    Error(Boxed<Failure>),
+    /// The job ends.
+    End(End),
 }
 
 /// What becomes of a scan and of the token that it got.
 #[derive(Drop)]
 pub enum Move {
     /// The token is used up, and the scan is over.
-    Used(Push),
-    /// The token is used up, and a scan goes on below what is pushed.
-    Stay(Scan, Push),
-    /// The token was copied into a list of the scan, which goes on. A copy is a step.
+    Used(Insert),
+    /// The same, and this scan begins.
+    Begin(Scan),
+    /// The token is used up, and the scan goes on so.
+    Stay(Scan),
+    /// The token was copied into a list of the scan, which goes on so. A copy is a step.
     Copied(Scan),
+    /// The token was copied into a list of the scan, which is over. A copy is a step.
+    CopiedLast(Insert),
     /// The scan is over, and the token is read again.
     Back,
-    /// The same, and this token is read before it.
-    BackUnder(Token),
+    /// The scan is over with this value, and the token is used up.
+    Gives(Value),
+    /// The scan is over with this value, and the token is read again.
+    GivesBack(Value),
     /// The token is kept while the next one is got.
     Hold(Keeper),
     /// The token is read again, and isn't expanded then.
     Unexpanded,
-    /// An error is reported.
-    Fails(Failure),
-    /// The job ends.
-    Ends(End),
 }
 
-/// What a scan wished for.
+/// What a scan's row decides.
 #[derive(Drop)]
-pub enum Value {
-    /// A token, and what it means where it was got.
-    One { token: Token, meaning: Meaning },
-    /// A text.
-    List(Tokens),
+pub struct Plan {
+    pub go: Move,
+    pub did: Did,
+}
+
+/// What comes with a token that is used up.
+#[derive(Drop)]
+pub enum Push {
+    Insert(Insert),
+    Begin(Scan),
+}
+
+/// What a command of main control begins, or an expandable token. It can't hold its token, nor copy it.
+#[derive(Drop)]
+pub struct Start {
+    pub push: Push,
+    pub did: Did,
+}
+
+/// What a finisher does with its value.
+#[derive(Drop)]
+pub enum Then {
+    Insert(Insert),
+    /// The programme goes on with this scan.
+    More(Scan),
+    /// The programme goes on with the second scan, behind the first, which gives nothing.
+    MoreBehind(Scan, Scan),
+    /// This text is said next.
+    Say(Bytes),
+}
+
+/// What a finisher's row decides.
+#[derive(Drop)]
+pub struct Ended {
+    pub then: Then,
+    pub did: Did,
 }
 
 /// What a turn comes to.
 #[derive(Drop)]
 pub enum Turned {
-    /// The scan goes on.
+    /// Nothing beside.
     Again,
-    /// The value that the scan on top wished for is whole.
-    Ready(Value),
-    /// Something is done to the outside.
-    Deed(Deed),
+    /// This is done to the outside.
+    Deed(Boxed<Deed>),
     /// The job ends.
     End(End),
-}
-
-/// What a scan wishes for.
-#[derive(Clone, Copy, Debug, PartialEq, Eq)]
-pub enum Want {
-    /// A token that isn't expandable, after expansion.
-    Token,
-    /// A text in braces, expanded; `reader` is the control sequence that reads it.
-    Text { reader: Token },
 }

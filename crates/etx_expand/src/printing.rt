@@ -1,12 +1,12 @@
 //! How characters, names and tokens are printed.
 ghost use Rattle.std.specs.Prelude.{◌≡◌, ◌<◌, ◌++◌, [], ◌∷◌, ◌==◌, if◌then◌else◌, MatchOption, OnOk, IfOk};
-ghost use Rattle.etx_state.specs.States.{mouth_of};
+ghost use Rattle.etx_state.specs.Rests.{rest_of};
 ghost use Rattle.etx_expand.specs.Printing.{hex_digit, shown_character, character_in, printed_character, printed, escape_in, name_text, escaped, parameter_text, spelled, space_behind, token_text, tokens_text, said_text, shown_name, character_token, character_tokens};
 
 use etx_lists::Bytes;
 use etx_matter::{NameId, Token, Tokens};
 use etx_prims::IntParam;
-use etx_state::State;
+use etx_state::Rest;
 use std::alloc::{AllocError, Global};
 
 fn hex_digit(number: u8) -> u8
@@ -51,10 +51,10 @@ fn character_of(code: i32) -> Option<u8>
 
 /// Prints a character behind these bytes: the character of `\newlinechar` begins a new line.
 #[tactic(auto, unfolding(crate::specs::Printing::printed_character))]
-fn print_character(s: &State, bytes: &mut Bytes, code: u8) -> Result<(), AllocError>
-    ensures { OnOk result (bytes.new ≡ bytes.old ++ printed_character (mouth_of s.now).values code) }
+fn print_character(rest: &Rest, bytes: &mut Bytes, code: u8) -> Result<(), AllocError>
+    ensures { OnOk result (bytes.new ≡ bytes.old ++ printed_character (rest_of rest.now).values code) }
 {
-    match character_of(s.int(IntParam::NewLineChar)) {
+    match character_of(rest.int(IntParam::NewLineChar)) {
         None => show_character(bytes, code),
         Some(new_line) => {
             if code == new_line {
@@ -68,20 +68,20 @@ fn print_character(s: &State, bytes: &mut Bytes, code: u8) -> Result<(), AllocEr
 }
 
 /// Prints these characters behind these bytes. After an `Err` some may have been added.
-pub fn push_printed(s: &State, bytes: &mut Bytes, text: &[u8]) -> Result<(), AllocError>
-    ensures { OnOk result (bytes.new ≡ bytes.old ++ printed (mouth_of s.now).values text.now) }
+pub fn push_printed(rest: &Rest, bytes: &mut Bytes, text: &[u8]) -> Result<(), AllocError>
+    ensures { OnOk result (bytes.new ≡ bytes.old ++ printed (rest_of rest.now).values text.now) }
 {
     for code in text {
-        print_character(s, bytes, *code)?;
+        print_character(rest, bytes, *code)?;
     }
     Ok(())
 }
 
 /// The escape character, if there is one.
-fn push_escape(s: &State, bytes: &mut Bytes) -> Result<(), AllocError>
-    ensures { OnOk result (bytes.new ≡ bytes.old ++ escape_in (mouth_of s.now).values) }
+fn push_escape(rest: &Rest, bytes: &mut Bytes) -> Result<(), AllocError>
+    ensures { OnOk result (bytes.new ≡ bytes.old ++ escape_in (rest_of rest.now).values) }
 {
-    match character_of(s.int(IntParam::EscapeChar)) {
+    match character_of(rest.int(IntParam::EscapeChar)) {
         None => Ok(()),
         Some(escape) => {
             bytes.push(escape)?;
@@ -91,41 +91,41 @@ fn push_escape(s: &State, bytes: &mut Bytes) -> Result<(), AllocError>
 }
 
 /// The escape character and a word.
-fn push_word(s: &State, bytes: &mut Bytes, word: &[u8]) -> Result<(), AllocError>
-    ensures { OnOk result (bytes.new ≡ bytes.old ++ (escape_in (mouth_of s.now).values ++ word.now)) }
+fn push_word(rest: &Rest, bytes: &mut Bytes, word: &[u8]) -> Result<(), AllocError>
+    ensures { OnOk result (bytes.new ≡ bytes.old ++ (escape_in (rest_of rest.now).values ++ word.now)) }
 {
-    push_escape(s, bytes)?;
+    push_escape(rest, bytes)?;
     bytes.extend_from_slice(word)?;
     Ok(())
 }
 
 /// Adds a command's name as errors show it: the escape character and the name, printed. After an `Err` some of it may have
 /// been added.
-pub fn push_escaped(s: &State, bytes: &mut Bytes, name: &[u8]) -> Result<(), AllocError>
-    ensures { OnOk result (bytes.new ≡ bytes.old ++ printed (mouth_of s.now).values (escape_in (mouth_of s.now).values ++ name.now)) }
+pub fn push_escaped(rest: &Rest, bytes: &mut Bytes, name: &[u8]) -> Result<(), AllocError>
+    ensures { OnOk result (bytes.new ≡ bytes.old ++ printed (rest_of rest.now).values (escape_in (rest_of rest.now).values ++ name.now)) }
 {
-    let mut text = Bytes::new(s.alloc());
-    push_word(s, &mut text, name)?;
-    push_printed(s, bytes, text.as_slice())
+    let mut text = Bytes::new(rest.alloc());
+    push_word(rest, &mut text, name)?;
+    push_printed(rest, bytes, text.as_slice())
 }
 
 /// The characters of a name: the escape character and the name. The empty name is that of `\csname\endcsname`.
-fn push_name_text(s: &State, bytes: &mut Bytes, name: &[u8]) -> Result<(), AllocError>
-    ensures { OnOk result (bytes.new ≡ bytes.old ++ escaped (mouth_of s.now).values name.now) }
+fn push_name_text(rest: &Rest, bytes: &mut Bytes, name: &[u8]) -> Result<(), AllocError>
+    ensures { OnOk result (bytes.new ≡ bytes.old ++ escaped (rest_of rest.now).values name.now) }
 {
     if name.is_empty() {
-        push_word(s, bytes, b"csname")?;
-        push_word(s, bytes, b"endcsname")
+        push_word(rest, bytes, b"csname")?;
+        push_word(rest, bytes, b"endcsname")
     } else {
-        push_word(s, bytes, name)
+        push_word(rest, bytes, name)
     }
 }
 
 /// The text of a name. A name that no text names has the text of its kind.
-fn text_of(s: &State, name: NameId) -> &[u8]
-    ensures { result.now ≡ name_text (mouth_of s.now).names name.0 }
+fn text_of(rest: &Rest, name: NameId) -> &[u8]
+    ensures { result.now ≡ name_text (rest_of rest.now).names name.0 }
 {
-    match s.name_text(name) {
+    match rest.name_text(name) {
         Some(text) => text,
         None => b"inaccessible",
     }
@@ -142,24 +142,24 @@ fn push_parameter(bytes: &mut Bytes, number: u8) -> Result<(), AllocError>
 
 /// A token's own characters, as `\string` has them.
 #[tactic(auto, unfolding(crate::specs::Printing::spelled))]
-pub(crate) fn spell(s: &State, bytes: &mut Bytes, token: Token) -> Result<(), AllocError>
-    ensures { OnOk result (bytes.new ≡ bytes.old ++ spelled (mouth_of s.now) token) }
+pub(crate) fn spell(rest: &Rest, bytes: &mut Bytes, token: Token) -> Result<(), AllocError>
+    ensures { OnOk result (bytes.new ≡ bytes.old ++ spelled (rest_of rest.now) token) }
 {
     match token {
         Token::Char { code, .. } => {
             bytes.push(code)?;
             Ok(())
         }
-        Token::Name(name) => push_name_text(s, bytes, text_of(s, name)),
+        Token::Name(name) => push_name_text(rest, bytes, text_of(rest, name)),
         Token::Param(number) => push_parameter(bytes, number),
     }
 }
 
 /// The space behind a name in a text, which a name of one character that is no letter doesn't have.
-fn push_space(s: &State, bytes: &mut Bytes, name: &[u8]) -> Result<(), AllocError>
-    ensures { OnOk result (bytes.new ≡ bytes.old ++ space_behind (mouth_of s.now).values name.now) }
+fn push_space(rest: &Rest, bytes: &mut Bytes, name: &[u8]) -> Result<(), AllocError>
+    ensures { OnOk result (bytes.new ≡ bytes.old ++ space_behind (rest_of rest.now).values name.now) }
 {
-    if name.len() == 1 && s.category(name[0]) != 11 {
+    if name.len() == 1 && rest.category(name[0]) != 11 {
         return Ok(());
     }
     bytes.push(32)?;
@@ -179,55 +179,55 @@ fn push_character(bytes: &mut Bytes, code: u8, cat: u8) -> Result<(), AllocError
 }
 
 /// A name in a text.
-fn push_name_in_text(s: &State, bytes: &mut Bytes, name: &[u8]) -> Result<(), AllocError>
-    ensures { OnOk result (bytes.new ≡ bytes.old ++ (escaped (mouth_of s.now).values name.now ++ space_behind (mouth_of s.now).values name.now)) }
+fn push_name_in_text(rest: &Rest, bytes: &mut Bytes, name: &[u8]) -> Result<(), AllocError>
+    ensures { OnOk result (bytes.new ≡ bytes.old ++ (escaped (rest_of rest.now).values name.now ++ space_behind (rest_of rest.now).values name.now)) }
 {
-    push_name_text(s, bytes, name)?;
-    push_space(s, bytes, name)
+    push_name_text(rest, bytes, name)?;
+    push_space(rest, bytes, name)
 }
 
 /// A token in a text.
 #[tactic(auto, unfolding(crate::specs::Printing::token_text))]
-fn push_token(s: &State, bytes: &mut Bytes, token: Token) -> Result<(), AllocError>
-    ensures { OnOk result (bytes.new ≡ bytes.old ++ token_text (mouth_of s.now) token) }
+fn push_token(rest: &Rest, bytes: &mut Bytes, token: Token) -> Result<(), AllocError>
+    ensures { OnOk result (bytes.new ≡ bytes.old ++ token_text (rest_of rest.now) token) }
 {
     match token {
         Token::Char { code, cat } => push_character(bytes, code, cat),
-        Token::Name(name) => push_name_in_text(s, bytes, text_of(s, name)),
+        Token::Name(name) => push_name_in_text(rest, bytes, text_of(rest, name)),
         Token::Param(number) => push_parameter(bytes, number),
     }
 }
 
 /// The characters of a text.
-fn text_of_tokens(s: &State, tokens: &[Token]) -> Result<Bytes, AllocError>
-    ensures { IfOk result (λ it. it ≡ tokens_text (mouth_of s.now) tokens.now) }
+fn text_of_tokens(rest: &Rest, tokens: &[Token]) -> Result<Bytes, AllocError>
+    ensures { IfOk result (λ it. it ≡ tokens_text (rest_of rest.now) tokens.now) }
 {
-    let mut bytes = Bytes::new(s.alloc());
+    let mut bytes = Bytes::new(rest.alloc());
     for token in tokens {
-        push_token(s, &mut bytes, *token)?;
+        push_token(rest, &mut bytes, *token)?;
     }
     Ok(bytes)
 }
 
 /// A text as `\message` says it.
 #[tactic(auto, unfolding(crate::specs::Printing::said_text))]
-pub fn said_text(s: &State, tokens: &[Token]) -> Result<Bytes, AllocError>
-    ensures { IfOk result (λ it. it ≡ said_text (mouth_of s.now) tokens.now) }
+pub fn said_text(rest: &Rest, tokens: &[Token]) -> Result<Bytes, AllocError>
+    ensures { IfOk result (λ it. it ≡ said_text (rest_of rest.now) tokens.now) }
 {
-    let text = text_of_tokens(s, tokens)?;
-    let mut bytes = Bytes::new(s.alloc());
-    push_printed(s, &mut bytes, text.as_slice())?;
+    let text = text_of_tokens(rest, tokens)?;
+    let mut bytes = Bytes::new(rest.alloc());
+    push_printed(rest, &mut bytes, text.as_slice())?;
     Ok(bytes)
 }
 
 /// Adds a token's name as errors show it. After an `Err` some of it may have been added.
 #[tactic(auto, unfolding(crate::specs::Printing::shown_name))]
-pub fn push_name(s: &State, bytes: &mut Bytes, token: Token) -> Result<(), AllocError>
-    ensures { OnOk result (bytes.new ≡ bytes.old ++ shown_name (mouth_of s.now) token) }
+pub fn push_name(rest: &Rest, bytes: &mut Bytes, token: Token) -> Result<(), AllocError>
+    ensures { OnOk result (bytes.new ≡ bytes.old ++ shown_name (rest_of rest.now) token) }
 {
-    let mut text = Bytes::new(s.alloc());
-    spell(s, &mut text, token)?;
-    push_printed(s, bytes, text.as_slice())
+    let mut text = Bytes::new(rest.alloc());
+    spell(rest, &mut text, token)?;
+    push_printed(rest, bytes, text.as_slice())
 }
 
 /// A character as a token: a space is a space, and any other is an other character.

@@ -1,11 +1,12 @@
+//! Groups and assignments, over the rest of the state.
 ghost use Rattle.std.specs.Prelude.{◌≡◌, ◌↔◌, ◌≤◌, Some, Err, OnOk, OnErr, IfOk};
 ghost use Rattle.etx_state.specs.Fits.{Fits};
-ghost use Rattle.etx_state.specs.Values.{assign, assign_global, begin, kind, noted, level};
-ghost use Rattle.etx_state.specs.States.{mouth_of, with_values, group_ended, OnlyValues, OnlyValuesAndInput, Keeps};
+ghost use Rattle.etx_state.specs.Values.{assign, assign_global, begin, ended, after, kind, noted, level};
+ghost use Rattle.etx_state.specs.Rests.{rest_of, with_values, OnlyValues, Keeps};
 ghost use Rattle.etx_groups.specs.declared.groups.NoGroup.TheVariants.{OutOfMemory};
 
-use etx_matter::Token;
-use etx_state::{Capacity, GroupKind, Key, Limit, MOST_GROUPS, State, Val};
+use etx_matter::{Token, Tokens};
+use etx_state::{Capacity, GroupKind, Key, Limit, MOST_GROUPS, Rest, Val};
 use std::alloc::AllocError;
 
 /// Why no group ended.
@@ -25,47 +26,56 @@ impl From<AllocError> for NoGroup {
     }
 }
 
+/// What the end of a group hands out.
+#[derive(Drop)]
+pub struct GroupEnd {
+    /// The kind of the group.
+    pub kind: GroupKind,
+    /// The tokens that were noted in it, in the order in which they were noted. They are read next.
+    pub tokens: Tokens,
+}
+
 /// Opens a group: one more map, which has no key.
 ///
-/// `Full` comes exactly where 10000 groups are open, or more, and the state is then what it was. After want of memory the
-/// values may have changed.
-pub fn begin(s: &mut State, kind: GroupKind) -> Result<(), Capacity>
-    ensures ok { OnOk result (mouth_of s.new ≡ with_values (begin (mouth_of s.old).values kind) (mouth_of s.old)) }
-    ensures full { (result ≡ Err (Capacity.Full Limit.Groups)) ↔ (10000 ≤ level (mouth_of s.old).values) }
+/// `Full` comes exactly where 10000 groups are open, or more. After an `Err` the rest is what it was.
+pub fn begin(rest: &mut Rest, kind: GroupKind) -> Result<(), Capacity>
+    ensures ok { OnOk result (rest_of rest.new ≡ with_values (begin (rest_of rest.old).values kind) (rest_of rest.old)) }
+    ensures full { (result ≡ Err (Capacity.Full Limit.Groups)) ↔ (10000 ≤ level (rest_of rest.old).values) }
     ensures only { (limit : Limit) → result ≡ Err (Capacity.Full limit) → limit ≡ Limit.Groups }
-    ensures unchanged { 10000 ≤ level (mouth_of s.old).values → s.new ≡ s.old }
-    ensures rest { OnlyValues (mouth_of s.old) (mouth_of s.new) }
-    ensures kept { Keeps s.old s.new }
+    ensures err { OnErr result (rest.new ≡ rest.old) }
+    ensures kept { Keeps rest.old rest.new }
 {
-    if s.level() >= MOST_GROUPS {
+    if rest.level() >= MOST_GROUPS {
         return Err(Capacity::Full(Limit::Groups));
     }
-    match s.push_map(kind) {
+    match rest.begin(kind) {
         Ok(()) => Ok(()),
         Err(_) => Err(Capacity::OutOfMemory),
     }
 }
 
-/// Ends the innermost group, and answers its kind: its map is gone, and the tokens that were noted in it are read next, in
-/// the order in which they were noted ("TeX: The Program", section 326). They count as fresh ones. They are one more input
-/// level, for which `end` has no limit of its own; the machine ends the job where there are more than 10000.
+/// Ends the innermost group: its map is gone, and the tokens that were noted in it are handed out, in the order in which
+/// they were noted, to be read next ("TeX: The Program", section 326).
 ///
 /// `Outermost` comes exactly where no group is open, and nothing is changed then. After want of memory the values may
 /// have changed.
 #[tactic(auto, using(crate::proofs::Levels::none_open, crate::proofs::Levels::some_open))]
-pub fn end(s: &mut State) -> Result<GroupKind, NoGroup>
-    ensures kind { IfOk result (λ k. kind (mouth_of s.old).values ≡ Some k) }
-    ensures ok { OnOk result (mouth_of s.new ≡ group_ended (mouth_of s.old)) }
-    ensures none { (result ≡ Err NoGroup.Outermost) ↔ (level (mouth_of s.old).values ≡ 0) }
-    ensures unchanged { level (mouth_of s.old).values ≡ 0 → s.new ≡ s.old }
-    ensures err { OnErr result (OnlyValues (mouth_of s.old) (mouth_of s.new)) }
-    ensures rest { OnlyValuesAndInput (mouth_of s.old) (mouth_of s.new) }
-    ensures kept { Keeps s.old s.new }
+pub fn end(rest: &mut Rest) -> Result<GroupEnd, NoGroup>
+    ensures kind { IfOk result (λ end. kind (rest_of rest.old).values ≡ Some end.kind) }
+    ensures tokens { IfOk result (λ end. end.tokens ≡ after (rest_of rest.old).values) }
+    ensures ok { OnOk result (rest_of rest.new ≡ with_values (ended (rest_of rest.old).values) (rest_of rest.old)) }
+    ensures none { (result ≡ Err NoGroup.Outermost) ↔ (level (rest_of rest.old).values ≡ 0) }
+    ensures unchanged { level (rest_of rest.old).values ≡ 0 → rest.new ≡ rest.old }
+    ensures rest { OnlyValues (rest_of rest.old) (rest_of rest.new) }
+    ensures kept { Keeps rest.old rest.new }
 {
-    match s.kind() {
+    match rest.kind() {
         None => Err(NoGroup::Outermost),
-        Some(kind) => match s.pop_map() {
-            Ok(_) => Ok(kind),
+        Some(kind) => match rest.end() {
+            Ok(ended) => Ok(GroupEnd {
+                kind,
+                tokens: ended.tokens,
+            }),
             Err(_) => Err(NoGroup::OutOfMemory),
         },
     }
@@ -74,35 +84,36 @@ pub fn end(s: &mut State) -> Result<GroupKind, NoGroup>
 /// A local assignment: the innermost map has the key with this value.
 ///
 /// After want of memory the values may have changed.
-pub fn assign(s: &mut State, key: Key, value: Val) -> Result<(), AllocError>
+pub fn assign(rest: &mut Rest, key: Key, value: Val) -> Result<(), AllocError>
     requires { Fits key value }
-    ensures ok { OnOk result (mouth_of s.new ≡ with_values (assign (mouth_of s.old).values key value) (mouth_of s.old)) }
-    ensures rest { OnlyValues (mouth_of s.old) (mouth_of s.new) }
-    ensures kept { Keeps s.old s.new }
+    ensures ok { OnOk result (rest_of rest.new ≡ with_values (assign (rest_of rest.old).values key value) (rest_of rest.old)) }
+    ensures rest { OnlyValues (rest_of rest.old) (rest_of rest.new) }
+    ensures kept { Keeps rest.old rest.new }
 {
-    s.write_innermost(key, value)
+    rest.assign(key, value)
 }
 
 /// A global assignment: the outermost map has the key with this value, and no other map has the key.
 ///
-/// After want of memory the state is what it was.
-pub fn assign_global(s: &mut State, key: Key, value: Val) -> Result<(), AllocError>
+/// After want of memory the rest is what it was.
+pub fn assign_global(rest: &mut Rest, key: Key, value: Val) -> Result<(), AllocError>
     requires { Fits key value }
-    ensures ok { OnOk result (mouth_of s.new ≡ with_values (assign_global (mouth_of s.old).values key value) (mouth_of s.old)) }
-    ensures err { OnErr result (s.new ≡ s.old) }
-    ensures rest { OnlyValues (mouth_of s.old) (mouth_of s.new) }
-    ensures kept { Keeps s.old s.new }
+    ensures ok { OnOk result (rest_of rest.new ≡ with_values (assign_global (rest_of rest.old).values key value) (rest_of rest.old)) }
+    ensures err { OnErr result (rest.new ≡ rest.old) }
+    ensures rest { OnlyValues (rest_of rest.old) (rest_of rest.new) }
+    ensures kept { Keeps rest.old rest.new }
 {
-    s.write_outermost(key, value)
+    rest.assign_global(key, value)
 }
 
 /// Notes a token, to be read behind the end of the innermost group. Where no group is open, nothing is noted.
 ///
-/// After want of memory the values may have changed.
-pub fn after(s: &mut State, token: Token) -> Result<(), AllocError>
-    ensures ok { OnOk result (mouth_of s.new ≡ with_values (noted (mouth_of s.old).values token) (mouth_of s.old)) }
-    ensures rest { OnlyValues (mouth_of s.old) (mouth_of s.new) }
-    ensures kept { Keeps s.old s.new }
+/// After want of memory the rest is what it was.
+pub fn after(rest: &mut Rest, token: Token) -> Result<(), AllocError>
+    ensures ok { OnOk result (rest_of rest.new ≡ with_values (noted (rest_of rest.old).values token) (rest_of rest.old)) }
+    ensures err { OnErr result (rest.new ≡ rest.old) }
+    ensures rest { OnlyValues (rest_of rest.old) (rest_of rest.new) }
+    ensures kept { Keeps rest.old rest.new }
 {
-    s.note_after(token)
+    rest.after(token)
 }

@@ -6,6 +6,7 @@ use Rattle.std.proofs.lemmas.List.{reverse-append}
 use Rattle.etx_input.specs.declared.level.Level.{Level}
 use Rattle.etx_input.specs.declared.level.Level.TheVariants as level
 use Rattle.etx_input.specs.Files.{FileState}
+use Rattle.etx_input.specs.Lists.{ListState}
 use Rattle.etx_input.specs.Gifts.{level_behind, behind_gift}
 use Rattle.etx_input.specs.Levels.{line_in}
 
@@ -35,13 +36,14 @@ behind-changed cats endline xs n old new all is behind =
     ∙ ap (λ (l : Level). l ∷ reverse (take n xs)) (behind ∙ ap (level_behind cats endline) is)
     ∙ ap (behind_gift cats endline) (sym (innermost xs n old (omega (arith, all))) ∙ whole xs n all)
 
--- a stack of no levels stays
-pub behind-none : (cats : ℕ → ℕ) (endline : ℤ) (xs : List Level) → (0 < length xs → ⊥) → reverse xs ≡ behind_gift cats endline (reverse xs)
-behind-none cats endline [] none = refl
-behind-none cats endline (x ∷ xs) none = absurd (none (omega arith))
-
 -- the innermost level of the first n is a file
 pub line-file : (xs : List Level) (n : ℕ) (left : ℕ) (l : Level) (file : FileState) → n < length xs → l ≡ get_or xs n l → l ≡ level.File file → line_in (reverse (take (suc n) xs)) left ≡ file.number
 line-file xs n left l file within is is_file =
     ap (λ (ls : List Level). line_in ls left) (innermost xs n l within)
     ∙ ap (λ (k : Level). line_in (k ∷ reverse (take n xs)) left) (sym is ∙ is_file)
+
+-- the innermost level of the first n is a list
+pub line-list : (xs : List Level) (n : ℕ) (left : ℕ) (l : Level) (list : ListState) → n < length xs → l ≡ get_or xs n l → l ≡ level.List list → line_in (reverse (take (suc n) xs)) left ≡ line_in (reverse (take n xs)) left
+line-list xs n left l list within is is_list =
+    ap (λ (ls : List Level). line_in ls left) (innermost xs n l within)
+    ∙ ap (λ (k : Level). line_in (k ∷ reverse (take n xs)) left) (sym is ∙ is_list)

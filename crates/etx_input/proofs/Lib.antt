@@ -1,5 +1,8 @@
-mod Ends
-mod Lines
-mod Listed
-mod Stack
-mod Taking
+pub mod Ends
+pub mod Lines
+pub mod Listed
+pub mod Marks
+pub mod Runs
+pub mod Stack
+pub mod Taking
+pub mod Tops

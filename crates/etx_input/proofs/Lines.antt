@@ -1,13 +1,15 @@
 -- The lines of a text, and what is lexed over them.
-use Rattle.std.proofs.Common.{◌≡◌, ℕ, zero, suc, ◌+◌, ℤ, ◌<◌, ◌≤◌, List, [], ◌∷◌, length, Option, Some, None, IfSome, refl, ◌∙◌, ap, subst, arith}
+use Rattle.std.proofs.Common.{◌≡◌, ℕ, zero, suc, ◌+◌, ◌-◌, ℤ, ◌<◌, ◌≤◌, List, [], ◌∷◌, ◌++◌, length, take, drop, Option, Some, None, IfSome, MatchOption, refl, sym, ◌∙◌, ap, subst, arith}
+use Rattle.std.specs.Option.{option_to_list}
+use Rattle.std.proofs.lemmas.List.{take-take}
 use Rattle.etx_lexer.specs.Splitting.{Split, first_line}
 use Rattle.etx_lexer.proofs.FirstLines.{rest_is_shorter}
 use Rattle.etx_lexer.specs.Lex.{Lex, lexed_of}
-use Rattle.etx_lexer.specs.Places.{line_of}
+use Rattle.etx_lexer.specs.Places.{line_of, trimmed, end_of_line}
 use Rattle.etx_lexer.specs.declared.lexed.Lexed.{Lexed}
 use Rattle.etx_lexer.specs.declared.lexed.Lexed.TheVariants.{Char, Name, LineEnd, Invalid}
 use Rattle.etx_lexer.specs.declared.place.LineState.TheVariants.{New}
-use Rattle.etx_input.specs.Files.{FileState, line_read, Got, behind, got_or_more, got_in, got_of, first_and_more, lines_within, lines_of}
+use Rattle.etx_input.specs.Files.{FileState, line_read, Got, behind, got_or_more, got_in, got_of, first_and_more, lines_within, lines_of, line_within}
 
 -- ---- the lines of a text
 
@@ -38,6 +40,24 @@ lines_of-some (b ∷ text) s is =
     let shorter : length s.rest < length (b ∷ text) = subst (λ (o : Option Split). IfSome o (λ split. length split.rest < length (b ∷ text))) is (rest_is_shorter (b ∷ text)) in
     ap (λ (o : Option Split). first_and_more o (lines_within (length text))) is
     ∙ ap (λ (ls : List (List ℕ)). s.line ∷ ls) (within_more (length s.rest) (length text) s.rest (omega arith) (omega (arith, shorter)))
+
+-- ---- a line that is kept as bytes of the text and a character behind them
+
+-- the character that \endlinechar gives
+pub end_is : (o : Option ℕ) (end : List ℕ) → MatchOption o (end ≡ []) (λ c. end ≡ c ∷ []) → option_to_list o ≡ end
+end_is None end is = sym is
+end_is (Some c) end is = sym is
+
+-- without the spaces at its end
+pub line_kept : (text : List ℕ) (start long kept : ℕ) (end : Option ℕ) (endline : ℤ) → kept ≤ long → take kept (take long (drop start text)) ≡ trimmed (take long (drop start text)) → option_to_list end ≡ end_of_line endline → line_within text start (start + kept) end ≡ line_of (take long (drop start text)) endline
+line_kept text start long kept end endline small cut is =
+    ap (λ (n : ℕ). take n (drop start text) ++ option_to_list end) (omega arith)
+    ∙ ap (λ (ts : List ℕ). ts ++ option_to_list end) (sym (take-take kept long (drop start text) small) ∙ cut)
+    ∙ ap (λ (e : List ℕ). trimmed (take long (drop start text)) ++ e) is
+
+pub line_empty : (text : List ℕ) (end : Option ℕ) (endline : ℤ) → option_to_list end ≡ end_of_line endline → line_within text 0 0 end ≡ line_of [] endline
+unfolding trimmed
+line_empty text end endline is = is
 
 -- ---- what is lexed over the lines
 

@@ -1,5 +1,6 @@
 -- A file as it is read: the line at hand, and the lines behind it ("TeX: The Program", sections 331 and 343 to 362).
-use Rattle.std.specs.Prelude.{◌≡◌, Bool, true, false, ℕ, zero, suc, ◌+◌, ℤ, List, [], ◌∷◌, length, Option, Some, None}
+use Rattle.std.specs.Prelude.{◌≡◌, Bool, true, false, ℕ, zero, suc, ◌+◌, ◌-◌, ℤ, List, [], ◌∷◌, ◌++◌, length, take, drop, Option, Some, None}
+use Rattle.std.specs.Option.{option_to_list}
 use Rattle.etx_lexer.specs.Lex.{Lex, lexed_of}
 use Rattle.etx_lexer.specs.Places.{line_of}
 use Rattle.etx_lexer.specs.Splitting.{Split, first_line}
@@ -34,6 +35,19 @@ unread text = record { line = []; state = New; number = 0; lines = lines_of text
 -- a line is read: its bytes, and the character that \endlinechar adds
 abbrev pub line_read : ℤ → List ℕ → ℕ → List (List ℕ) → FileState
 line_read endline line number lines = record { line = line_of line endline; state = New; number = number + 1; lines = lines }
+
+-- A file is opened: its first line is read at once ("TeX: The Program", section 538). A file without a line counts as one
+-- empty line.
+abbrev pub opened_as : ℤ → List (List ℕ) → FileState
+opened_as endline [] = line_read endline [] 0 []
+opened_as endline (l ∷ ls) = line_read endline l 0 ls
+
+unfoldable pub opened : ℤ → List ℕ → FileState
+opened endline text = opened_as endline (lines_of text)
+
+-- the line that is kept as bytes of the text and a character behind them
+abbrev pub line_within : List ℕ → ℕ → ℕ → Option ℕ → List ℕ
+line_within text start stop end = take (stop - start) (drop start text) ++ option_to_list end
 
 -- what was got, if the file had more, and the file behind it
 pub record Got : Type 0 where

@@ -63,6 +63,10 @@ abbrev pub number_left : Level → ℕ → ℕ
 number_left (level.List l) left = left
 number_left (level.File f) left = f.number
 
+abbrev pub left_next : List Level → ℕ → ℕ
+left_next [] left = left
+left_next (l ∷ ls) left = number_left l left
+
 abbrev pub innermost_left : List Level → ℕ → InputState
 innermost_left [] left = reading [] left
 innermost_left (l ∷ ls) left = reading ls (number_left l left)

@@ -1,12 +1,13 @@
 //! One level of the input.
-ghost use Rattle.std.specs.Prelude.{◌≡◌, ◌∷◌, [], MatchOption, IfOk};
-ghost use Rattle.etx_input.specs.Lists.{is_empty};
+ghost use Rattle.std.specs.Prelude.{◌≡◌, ◌≤◌, ◌∷◌, [], MatchOption, IfOk, drop, length};
+ghost use Rattle.etx_input.specs.Lists.{is_empty, fresh_of};
 ghost use Rattle.etx_input.specs.Waiting.{tokens_waiting};
 
 use crate::file::FileInput;
 use crate::origin::Origin;
-use crate::shared::SharedTokens;
-use etx_matter::Token;
+use etx_matter::{SharedTokens, Token};
+use etx_stack::Share;
+use std::alloc::AllocError;
 use std::marker::Model;
 
 /// The tokens of a list that were not taken yet.
@@ -37,6 +38,57 @@ impl Model for ListInput {
 }
 
 impl Waiting {
+    /// The same tokens. A shared list is shared once more.
+    fn share(&self) -> Result<Waiting, AllocError>
+        ensures { IfOk result (λ same. tokens_waiting same ≡ tokens_waiting self.now) }
+    {
+        match self {
+            Waiting::Nothing => Ok(Waiting::Nothing),
+            Waiting::One(token) => Ok(Waiting::One(*token)),
+            Waiting::Shared { tokens, taken } => {
+                let tokens = tokens.share()?;
+                Ok(Waiting::Shared {
+                    tokens,
+                    taken: *taken,
+                })
+            }
+        }
+    }
+
+    /// The tokens.
+    fn tokens(&self) -> &[Token]
+        ensures { result.now ≡ tokens_waiting self.now }
+    {
+        match self {
+            Waiting::Nothing => &[],
+            Waiting::One(token) => std::slice::from_ref(token),
+            Waiting::Shared { tokens, taken } => {
+                let tokens = tokens.as_slice();
+                &tokens[(*taken).min(tokens.len())..]
+            }
+        }
+    }
+
+    /// Passes over some tokens.
+    fn skip(&mut self, count: usize)
+        requires { count ≤ length (tokens_waiting self.old) }
+        ensures { tokens_waiting self.new ≡ drop count (tokens_waiting self.old) }
+    {
+        match self {
+            Waiting::Nothing => {}
+            Waiting::One(_) => {
+                if count > 0 {
+                    *self = Waiting::Nothing;
+                }
+            }
+            Waiting::Shared { tokens, taken } => {
+                if *taken < tokens.as_slice().len() {
+                    *taken += count;
+                }
+            }
+        }
+    }
+
     /// Whether no token is left.
     fn is_over(&self) -> bool
         ensures { result ≡ is_empty (tokens_waiting self.now) }
@@ -73,6 +125,18 @@ impl Waiting {
     }
 }
 
+impl Share for ListInput {
+    /// The same list, of which as many tokens were taken. No token is copied.
+    fn share(&self) -> Result<ListInput, AllocError>
+        ensures { IfOk result (λ same. same ≡ self.now) }
+    {
+        Ok(ListInput {
+            waiting: self.waiting.share()?,
+            origin: self.origin,
+        })
+    }
+}
+
 impl ListInput {
     /// A list of which no token was taken.
     pub fn new(tokens: SharedTokens, origin: Origin) -> ListInput
@@ -100,6 +164,25 @@ impl ListInput {
         self.origin
     }
 
+    /// The tokens to come, where they count as steps.
+    pub fn fresh(&self) -> &[Token]
+        ensures { result.now ≡ fresh_of self.now.origin self.now.rest }
+    {
+        match self.origin {
+            Origin::Fresh => self.waiting.tokens(),
+            Origin::Back => &[],
+            Origin::Unexpanded => &[],
+        }
+    }
+
+    /// Passes over some tokens.
+    pub fn skip(&mut self, count: usize)
+        requires { count ≤ length self.old.rest }
+        ensures { self.new ≡ record { rest = drop count self.old.rest; origin = self.old.origin } }
+    {
+        self.waiting.skip(count);
+    }
+
     /// Whether no token is left.
     pub fn is_over(&self) -> bool
         ensures { result ≡ is_empty self.now.rest }
@@ -120,4 +203,22 @@ impl ListInput {
 pub enum Level {
     File(FileInput),
     List(ListInput),
+}
+
+impl Share for Level {
+    /// The same, at the same place. No token and no byte is copied.
+    fn share(&self) -> Result<Level, AllocError>
+        ensures { IfOk result (λ same. same ≡ self.now) }
+    {
+        match self {
+            Level::File(file) => {
+                let file = file.share()?;
+                Ok(Level::File(file))
+            }
+            Level::List(list) => {
+                let list = list.share()?;
+                Ok(Level::List(list))
+            }
+        }
+    }
 }

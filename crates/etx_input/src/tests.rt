@@ -1,10 +1,11 @@
 //! What files and lists give, in its order.
-ghost use Rattle.std.specs.Prelude.{◌≡◌, ◌≤◌, min, slice_index};
+ghost use Rattle.std.specs.Prelude.{◌≡◌, ◌≤◌, min, slice_index, OnOk};
+ghost use Rattle.etx_input.specs.Marks.{Keeps};
 
-use crate::{FileInput, Levels, Next, Origin, SharedTokens};
+use crate::{FileInput, Levels, Next, Origin};
 use etx_lexer::{CatOf, Lexed};
 use etx_lists::Bytes;
-use etx_matter::{Token, Tokens};
+use etx_matter::{SharedTokens, Token, Tokens};
 use std::alloc::{AllocError, Global};
 use std::test::Fail;
 
@@ -78,10 +79,12 @@ fn give(
     levels: &mut Levels,
     endline: i32,
     times: usize,
-) -> Result<String, AllocError> {
+) -> Result<String, AllocError>
+    ensures { OnOk result (Keeps levels.old levels.new) }
+{
     let categories = letters();
     let mut out = String::new(alloc);
-    for _ in 0..times {
+    'turns: for _ in 0..times {
         add(&mut out, levels.next(alloc, endline, &categories)?)?;
     }
     Ok(out)
@@ -152,5 +155,79 @@ fn a_list_is_left_with_its_last_token(rt: HostRuntime) -> Result<(), Fail> {
     assert!(rt; levels.depth() == 1);
     give(alloc, &mut levels, 13, 1)?;
     assert!(rt; levels.depth() == 0);
+    Ok(())
+}
+
+/// A list behind its first token, over a file.
+fn begun(alloc: Global) -> Result<Levels, AllocError> {
+    let mut levels = Levels::new(alloc);
+    levels.push_file(file_of(alloc, b"x\nz")?)?;
+    levels.push_tokens(alloc, tokens_of(alloc, b"ab")?, Origin::Fresh)?;
+    give(alloc, &mut levels, 13, 1)?;
+    Ok(levels)
+}
+
+#[test]
+#[tactic(auto, using(crate::proofs::Marks::kept_live))]
+fn going_back_reads_again(rt: HostRuntime) -> Result<(), Fail> {
+    let alloc = rt.alloc();
+    let mut levels = begun(alloc)?;
+    let mark = levels.mark();
+    let got = give(alloc, &mut levels, 13, 7)?;
+    assert!(rt; got.as_str() == "b+x z $.");
+    levels.back_to(mark);
+    assert!(rt; stands(&levels, 2, 0));
+    let got = give(alloc, &mut levels, 13, 7)?;
+    assert!(rt; got.as_str() == "b+x z $.");
+    levels.forget();
+    assert!(rt; stands(&levels, 0, 2));
+    Ok(())
+}
+
+#[test]
+#[tactic(auto, using(crate::proofs::Marks::kept_live))]
+fn earlier_marks_stay(rt: HostRuntime) -> Result<(), Fail> {
+    let alloc = rt.alloc();
+    let mut levels = begun(alloc)?;
+    let first = levels.mark();
+    levels.push_token(Token::Char { code: 101, cat: 11 }, Origin::Back)?;
+    let second = levels.mark();
+    give(alloc, &mut levels, 13, 3)?;
+    levels.back_to(second);
+    let got = give(alloc, &mut levels, 13, 1)?;
+    assert!(rt; got.as_str() == "e-");
+    levels.back_to(first);
+    assert!(rt; stands(&levels, 2, 0));
+    Ok(())
+}
+
+#[test]
+fn many_tokens_are_taken_at_once(rt: HostRuntime) -> Result<(), Fail> {
+    let alloc = rt.alloc();
+    let mut levels = Levels::new(alloc);
+    levels.push_file(file_of(alloc, b"x")?)?;
+    assert!(rt; levels.fresh().is_empty());
+    levels.push_tokens(alloc, tokens_of(alloc, b"abcd")?, Origin::Fresh)?;
+    assert!(rt; levels.fresh().len() == 4);
+    levels.skip(3)?;
+    let got = give(alloc, &mut levels, 13, 1)?;
+    assert!(rt; got.as_str() == "d+" && stands(&levels, 1, 0));
+    levels.push_token(Token::Char { code: 101, cat: 11 }, Origin::Fresh)?;
+    assert!(rt; levels.fresh().len() == 1);
+    levels.skip(1)?;
+    assert!(rt; stands(&levels, 1, 0));
+    Ok(())
+}
+
+#[test]
+fn the_first_line_is_read_where_the_file_is_opened(rt: HostRuntime) -> Result<(), Fail> {
+    let alloc = rt.alloc();
+    for (text, want) in [(&b"x\ny"[..], "x!y "), (&b""[..], "!")] {
+        let mut levels = Levels::new(alloc);
+        levels.push_file(FileInput::open(alloc, Bytes::from_slice(alloc, text)?, 33)?)?;
+        assert!(rt; stands(&levels, 1, 1));
+        let got = give(alloc, &mut levels, 32, want.len())?;
+        assert!(rt; got.as_str() == want);
+    }
     Ok(())
 }

@@ -4,7 +4,6 @@ use Rattle.etx_outside.specs.Faults.{Rose}
 use Rattle.etx_outside.specs.Outside.{Faults, NoneFell, WriteRose}
 use Rattle.etx_settle.specs.declared.fault.FlushFault.{FlushFault}
 use Rattle.etx_settle.specs.declared.fault.FlushFault.TheVariants as flush
-use Rattle.etx_job.specs.declared.fault.Fault.{Fault}
 use Rattle.etx_job.specs.declared.fault.Fault.TheVariants as fault
 use Rattle.etx_job.specs.Fault.{of_flush}
 

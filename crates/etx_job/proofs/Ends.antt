@@ -1,8 +1,7 @@
 -- The chain's beginning and its end.
 use Rattle.std.proofs.Common.{◌≡◌, ◌⊎◌, inl, inr, ℕ, zero, suc, ◌+◌, ◌<◌, ◌≤◌, Bool, true, false, cond, nat_lt, List, [], ◌∷◌, ◌++◌, Option, Some, None, IsSome, refl, sym, ◌∙◌, ap, subst, append_assoc, arith}
-use Rattle.std.proofs.lemmas.List.{append-nil}
 use Rattle.std.proofs.lemmas.Bool.{cases_eq, cases_lt}
-use Rattle.etx_outside.specs.Entries.{Files, Asked, History, files_after}
+use Rattle.etx_outside.specs.Entries.{Asked, History, files_after}
 use Rattle.etx_outside.specs.Loading.{load_of}
 use Rattle.etx_outside.specs.Outside.{Outside, after, Front}
 use Rattle.etx_outside.proofs.Outsides.{after-nil, after-append, front_none, front_longer}
@@ -11,16 +10,17 @@ use Rattle.etx_matter.specs.declared.deed.Deed.TheVariants.{Create}
 use Rattle.etx_matter.specs.declared.deed.Deed.{Deed}
 use Rattle.etx_matter.specs.declared.end.End.{End}
 use Rattle.etx_matter.specs.declared.end.End.TheVariants.{Hundred, Spent}
+use Rattle.etx_matter.specs.Jobs.{JobState}
 use Rattle.etx_job.specs.Mouths.{MouthState}
 use Rattle.etx_job.specs.declared.yields.Yield.{Yield}
 use Rattle.etx_job.specs.declared.yields.Yield.TheVariants.{Quiet, Act, Load, Done}
 use Rattle.etx_job.specs.Turn.{turned, turn_of, resumed, first_mouth, line_number_of}
 use Rattle.etx_job.specs.Errors.{is_error}
-use Rattle.etx_job.specs.Measure.{weight, Goes, GoesOn, IsNoMore}
+use Rattle.etx_job.specs.Measure.{weight, Goes, GoesOn}
 use Rattle.etx_job.specs.Words.{log_name}
 use Rattle.etx_job.specs.Chain.{Start, World, with_deeds, closing, ended, with_error, counted, handled, step_open, step_from, step, turned_on, opening, chain, IsMean}
 use Rattle.etx_job.specs.Going.{world_of, Going, Over, Cut, Settled}
-use Rattle.etx_job.proofs.Falling.{turn_goes, resumed_no_more}
+use Rattle.etx_job.proofs.Falling.{turn_goes, resumed_adds}
 use Rattle.etx_job.proofs.Acting.{Grows, grows_not, counted_grows}
 use Rattle.etx_job.proofs.Coming.{quiet_on, act_on, load_on}
 use Rattle.etx_job.proofs.Turns.{lt_true, lt_false}
@@ -39,6 +39,31 @@ going_starts start first same_mouth same_journal = record {
   at = λ i. world_of (sym same_mouth i) 0 (sym same_journal i) [] None;
   now_is = sym (after-nil first);
 }
+
+-- the same, as the driver's calls say it
+pub starts_as : {start : Start} {first : Outside} {mouth : MouthState} {journal empty : JournalState} {job : JobState} {name log : List ℕ}
+    → start.job ≡ job
+    → mouth ≡ first_mouth job.name
+    → journal ≡ record empty { waiting = empty.waiting ++ Create log ∷ [] }
+    → empty ≡ record { pen = first_pen; waiting = [] }
+    → log ≡ log_name name
+    → name ≡ job.name
+    → Going start first mouth 0 journal first
+starts_as {start} {first} {mouth} {journal} {empty} {job} {name} {log} is same_mouth pushed is_empty is_log is_name =
+    let waits : journal ≡ record { pen = first_pen; waiting = Create (log_name job.name) ∷ [] } =
+    pushed
+    ∙ ap (λ (j : JournalState). record j { waiting = j.waiting ++ Create log ∷ [] }) is_empty
+    ∙ ap (λ (l : List ℕ). record { pen = first_pen; waiting = Create l ∷ [] }) (is_log ∙ ap log_name is_name) in
+    going_starts
+    start
+    first
+    (same_mouth ∙ ap (λ (j : JobState). first_mouth j.name) (sym is))
+    (waits ∙ ap (λ (j : JobState). record { pen = first_pen; waiting = Create (log_name j.name) ∷ [] }) (sym is))
+
+-- a job begins with no step
+pub first_spent : (name : List ℕ) → (first_mouth name).machine.spent ≡ 0
+unfolding first_mouth
+first_spent name = refl
 
 pub settled : {start : Start} {first now new : Outside} {journal : JournalState} {e : End} {erred : Bool} → Over start first journal e now → new ≡ after (entries journal.pen journal.waiting) now → erred ≡ (pen_after_all journal.pen journal.waiting).has_erred → Settled start e erred first new
 settled {start} {first} {now} {new} {journal} {e} {erred} o wrote is = record {
@@ -91,7 +116,7 @@ module _ (start : Start) where
         }
   ]
 
-  step_stays : (w : World) → IsSome w.end → step start w ≡ w
+  pub step_stays : (w : World) → IsSome w.end → step start w ≡ w
   unfolding step
   step_stays w has = go w.end has
     where
@@ -154,8 +179,8 @@ module _ (start : Start) where
   handled_goes old w (Act d) within goes = counted_goes old (with_deeds (d ∷ []) w) d (is_error d) refl within goes
   handled_goes old w (Load name) within goes =
       let loaded = load_of (files_after w.trace start.files name) in
-      let same = resumed_no_more w.mouth loaded in
-      inr ((omega (arith, same.spent, within.0), within.1), load_on old w.mouth (resumed w.mouth loaded) w.errors name same goes)
+      let same = resumed_adds name w.mouth loaded in
+      inr ((omega (arith, same.spent, within.0), within.1), load_on old w.mouth (resumed name w.mouth loaded) w.errors name same goes)
   handled_goes old w (Done e) within goes = inl refl
 
   step_goes : (w : World) → w.end ≡ None → w.errors < 100 → Going_on w.mouth w.errors (step start w)

@@ -1,12 +1,12 @@
 -- What a caller of the top call sees.
-use Rattle.std.proofs.Common.{◌≡◌, ℕ, Bool, List, [], ◌∷◌, ◌++◌, Option, Some, None, IsSome, MatchOption, refl, sym, ◌∙◌, ap, subst}
+use Rattle.std.proofs.Common.{◌≡◌, ℕ, Bool, List, ◌++◌, Option, Some, None, IsSome, MatchOption, refl, sym, ◌∙◌, ap, subst}
 use Rattle.etx_outside.specs.Entries.{Files, History, files_after, asked_in, said}
-use Rattle.etx_outside.specs.Outside.{Outside, outside_of, after, Front}
+use Rattle.etx_outside.specs.Outside.{Outside, outside_of, after}
 use Rattle.etx_matter.specs.Jobs.{JobState}
 use Rattle.etx_matter.specs.declared.end.End.{End}
 use Rattle.etx_matter.specs.declared.end.Status.{Status}
 use Rattle.etx_matter.specs.declared.end.Status.TheVariants.{Clean, Errors, Stopped, Spent, Usage, ReadFault, WriteFault, OutOfMemory}
-use Rattle.etx_job.specs.Chain.{Start, World, IsMean}
+use Rattle.etx_job.specs.Chain.{Start, World}
 use Rattle.etx_job.specs.Going.{IsFor, Cut, Settled}
 use Rattle.etx_job.specs.Meaning.{Meaning, IsEnding, IsRefusal, status_of, start_of, usage, IsMeaningOfJob, IsMeaning}
 use Rattle.etx_job.specs.Words.{job_asked}

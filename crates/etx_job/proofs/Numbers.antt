@@ -1,7 +1,6 @@
 -- Decimal numbers on the command line.
-use Rattle.std.proofs.Common.{◌≡◌, ℕ, zero, suc, ◌+◌, ◌-◌, ◌*◌, ◌^◌, ◌<◌, ◌≤◌, Bool, true, nat_le, List, [], ◌∷◌, map, length, Option, Some, None, refl, ap, subst, pow-suc, arith}
+use Rattle.std.proofs.Common.{◌≡◌, ℕ, zero, suc, ◌+◌, ◌-◌, ◌*◌, ◌^◌, ◌<◌, ◌≤◌, true, List, [], ◌∷◌, map, length, None, refl, ap, subst, pow-suc, arith}
 use Rattle.std.proofs.lemmas.Bool.Decides.{nat_tests}
-use Rattle.etx_matter.specs.Jobs.{JobState}
 use Rattle.etx_job.specs.Words.{is_digit, job_behind}
 
 ten_up : (k i j : ℕ) → j ≡ k + i → 10 ^ i ≤ 10 ^ j

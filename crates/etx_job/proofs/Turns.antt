@@ -1,5 +1,5 @@
 -- One step of the chain, as the mouth and the journal make it.
-use Rattle.std.proofs.Common.{◌≡◌, ℕ, zero, suc, ◌<◌, ◌≤◌, Bool, true, false, cond, nat_lt, List, [], ◌∷◌, ◌++◌, Option, Some, None, refl, sym, ◌∙◌, ap, subst, append_assoc, arith}
+use Rattle.std.proofs.Common.{◌≡◌, ℕ, zero, suc, ◌<◌, ◌≤◌, true, false, cond, nat_lt, List, [], ◌∷◌, ◌++◌, Option, Some, None, refl, sym, ◌∙◌, ap, subst, append_assoc, arith}
 use Rattle.std.proofs.lemmas.List.{append-nil}
 use Rattle.std.proofs.lemmas.Bool.Decides.{nat_tests}
 use Rattle.etx_outside.specs.Entries.{Files, Asked, History, files_after}
@@ -16,6 +16,7 @@ use Rattle.etx_job.specs.Mouths.{MouthState}
 use Rattle.etx_job.specs.declared.yields.Yield.{Yield}
 use Rattle.etx_job.specs.declared.yields.Yield.TheVariants.{Quiet, Act, Load, Done}
 use Rattle.etx_job.specs.Turn.{turn_of, resumed, line_number_of}
+use Rattle.etx_job.specs.Runs.{RunsIn, Runs}
 use Rattle.etx_job.specs.Chain.{Start, World, with_deeds, closing, ended, handled, step_open, step, chain}
 use Rattle.etx_job.specs.Going.{more_waiting, world_of, IsFor, Going, Over, AfterTurn, Asks, Acts, Cut}
 use Rattle.etx_job.specs.Meaning.{AtAsk}
@@ -123,6 +124,14 @@ going_is {errors = errors} g same_mouth same_journal = record {
   now_is = g.now_is;
 }
 
+-- quiet turns change nothing but the mouth
+pub going_runs : {start : Start} {first now : Outside} {old new : MouthState} {errors : ℕ} {journal : JournalState} → Going start first old errors journal now → (budget : ℕ) → start.job.budget ≡ budget → Runs budget old new → Going start first new errors journal now
+going_runs {start} {first} {now} {old} {new} {errors} {journal} g budget same r = go r.turns new (subst (λ (b : ℕ). RunsIn b r.turns old new) (sym same) r.run)
+  where
+    go : (n : ℕ) (v : MouthState) → RunsIn start.job.budget n old v → Going start first v errors journal now
+    go zero v is = going_is g is refl
+    go (suc n) v run = going_is (turn_quiet (go n run.0 run.1.0) run.1.1.within run.1.1.did) run.1.1.now refl
+
 pub over_is : {start : Start} {first now : Outside} {journal journal' : JournalState} {e : End} → Over start first journal e now → journal' ≡ journal → Over start first journal' e now
 over_is {e = e} o same = record {
   turns = o.turns;
@@ -196,7 +205,7 @@ module _ {start : Start} {first now : Outside} {mouth : MouthState} {errors : �
     pub cut_load : {asked_now : Outside} → Front (Asked name ∷ []) flushed_now asked_now → Cut start first asked_now
     cut_load {asked_now} f = record { turns = suc a.turns; front = subst (λ (w : World). Front w.trace first asked_now) (sym a.next) (front_behind (a.done ++ entries journal.pen journal.waiting) all f) }
 
-    pub answered : {asked_now : Outside} (loaded : Loaded) → IsFor start first → asked_now ≡ after (Asked name ∷ []) flushed_now → loaded ≡ load_of (flushed_now.files name) → Going start first (resumed mouth loaded) errors (flushed journal) asked_now
+    pub answered : {asked_now : Outside} (loaded : Loaded) → IsFor start first → asked_now ≡ after (Asked name ∷ []) flushed_now → loaded ≡ load_of (flushed_now.files name) → Going start first (resumed name mouth loaded) errors (flushed journal) asked_now
     unfolding after
     answered {asked_now} loaded files asked answer =
         let whole = a.done ++ entries journal.pen journal.waiting in
@@ -205,7 +214,7 @@ module _ {start : Start} {first now : Outside} {mouth : MouthState} {errors : �
           turns = suc a.turns;
           done = whole ++ Asked name ∷ [];
           at = a.next ∙ (λ i. record {
-            mouth = resumed mouth (there i);
+            mouth = resumed name mouth (there i);
             errors = errors;
             pen = pen_after_all journal.pen journal.waiting;
             trace = sym (append-nil (whole ++ Asked name ∷ [])) i;

@@ -1,5 +1,5 @@
 -- Deeds that wait, in two parts.
-use Rattle.std.proofs.Common.{◌≡◌, List, [], ◌∷◌, ◌++◌, refl, sym, ◌∙◌, ap, append_assoc}
+use Rattle.std.proofs.Common.{◌≡◌, List, ◌++◌, ◌∙◌, ap, append_assoc}
 use Rattle.etx_matter.specs.declared.deed.Deed.{Deed}
 use Rattle.etx_settle.specs.Deeds.{JournalState}
 use Rattle.etx_job.specs.Going.{more_waiting}

@@ -94,7 +94,7 @@ counted true w = unless_last (with_error w)
 abbrev pub handled : Start → World → Yield → World
 handled start w Quiet = w
 handled start w (Act d) = counted (is_error d) (with_deeds (d ∷ []) w)
-handled start w (Load name) = record w { mouth = resumed w.mouth (load_of (files_after w.trace start.files name)); trace = w.trace ++ Asked name ∷ [] }
+handled start w (Load name) = record w { mouth = resumed name w.mouth (load_of (files_after w.trace start.files name)); trace = w.trace ++ Asked name ∷ [] }
 handled start w (Done e) = ended e w
 
 -- the mouth has made a turn

@@ -1,7 +1,10 @@
--- The rows of the main loop: what each command does in vertical mode ("TeX: The Program", sections 1029 to 1069 and 1264 to 1279).
-use Rattle.std.specs.Prelude.{ℕ, ◌==◌, List, [], ◌∷◌, ◌++◌, Option, Some, None, codes, if◌then◌else◌}
+-- The rows of main control: what each command begins in vertical mode ("TeX: The Program", sections 1029 to 1069 and 1264 to 1279),
+-- and what it does with a text.
+use Rattle.std.specs.Prelude.{ℕ, ◌==◌, List, ◌++◌, Option, Some, None, codes, if◌then◌else◌}
 use Rattle.etx_matter.specs.declared.token.Token.{Token}
 use Rattle.etx_matter.specs.declared.token.Token.TheVariants as token
+use Rattle.etx_matter.specs.declared.deed.Audience.TheVariants.{LogAndTerminal}
+use Rattle.etx_matter.specs.declared.deed.Deed.TheVariants as deed
 use Rattle.etx_matter.specs.declared.end.End.TheVariants.{Ended, Unbuilt, Capacity}
 use Rattle.etx_matter.specs.declared.end.Limit.TheVariants.{Groups}
 use Rattle.etx_prims.specs.declared.command.Primitive.{Primitive}
@@ -16,74 +19,100 @@ use Rattle.etx_state.specs.declared.key.GroupKind.{GroupKind}
 use Rattle.etx_state.specs.declared.key.GroupKind.TheVariants as groups
 use Rattle.etx_state.specs.declared.key.Meaning.{Meaning}
 use Rattle.etx_state.specs.declared.key.Meaning.TheVariants as means
+use Rattle.etx_state.specs.declared.scan.AssignScan.TheVariants as assign
+use Rattle.etx_state.specs.declared.scan.ControlScan.TheVariants as control
+use Rattle.etx_state.specs.declared.scan.ControlText.{ControlText}
+use Rattle.etx_state.specs.declared.scan.ControlText.TheVariants as takes
+use Rattle.etx_state.specs.declared.scan.TextFinish.TheVariants as finish
+use Rattle.etx_state.specs.declared.scan.Scan.{Scan}
 use Rattle.etx_state.specs.declared.scan.Scan.TheVariants as scan
-use Rattle.etx_state.specs.Values.{Values, begin, kind, level}
-use Rattle.etx_expand.specs.declared.plan.Push.TheVariants.{Nothing, Begin, GroupEnd}
-use Rattle.etx_expand.specs.declared.plan.Move.{Move}
-use Rattle.etx_expand.specs.declared.plan.Move.TheVariants.{Used, Stay, Ends}
-use Rattle.etx_expand.specs.Turn.{plain_failure, failure_under, has_category}
-use Rattle.etx_expand.specs.Printing.{escape_in, printed}
-use Rattle.etx_assign.specs.Assignments.{Planned, planned, no_prefixes, with_prefix, is_assignment}
-use Rattle.etx_assign.specs.Rows.{assignment_begun}
+use Rattle.etx_state.specs.Values.{begin, ended, after, kind, level}
+use Rattle.etx_state.specs.Rests.{RestState, with_values}
+use Rattle.etx_expand.specs.declared.meaning.Expandable.TheVariants as expandable
+use Rattle.etx_expand.specs.declared.plan.Did.TheVariants as did
+use Rattle.etx_expand.specs.declared.plan.Push.TheVariants as push
+use Rattle.etx_expand.specs.declared.plan.Start.{Start}
+use Rattle.etx_expand.specs.declared.plan.Then.TheVariants as afterwards
+use Rattle.etx_expand.specs.Answers.{Begun, Finished, begun, starting, nothing, start_ends, start_fails, start_fails_under, insert_of}
+use Rattle.etx_expand.specs.Printing.{escape_in, printed, said_text}
+use Rattle.etx_expand.specs.Texts.{text_for}
+use Rattle.etx_expand.specs.Turn.{expanded}
+use Rattle.etx_assign.specs.Assignments.{no_prefixes, with_prefix, is_assignment}
+use Rattle.etx_assign.specs.Prefixes.{prefix_scan, assignment_begun}
 use Rattle.etx_job.specs.declared.commands.Command.{Command}
 use Rattle.etx_job.specs.declared.commands.Command.TheVariants as command
+
+-- a command that leaves the rest as it is
+abbrev pub beginning : Start → RestState → Begun
+beginning s r = record { rest = r; start = s }
+
+abbrev pub scan_begun : Scan → Start
+scan_begun s = starting (push.Begin s)
 
 -- ---- groups
 
 -- a group begins, unless 10000 are open
-unfoldable pub begin_row : GroupKind → Values → Planned
-begin_row k v = if level v == 10000 then planned v (Ends (Capacity Groups)) else planned (begin v k) (Used Nothing)
+unfoldable pub group_begun : GroupKind → RestState → Begun
+group_begun k r = if level r.values == 10000 then beginning (start_ends (Capacity Groups)) r else begun (with_values (begin r.values k) r) nothing
 
-abbrev pub right_brace_by : Option GroupKind → Values → Move
-right_brace_by None v = plain_failure (codes "Too many }'s")
-right_brace_by (Some groups.Simple) v = Used GroupEnd
-right_brace_by (Some groups.SemiSimple) v = plain_failure (codes "Extra }, or forgotten " ++ printed v (escape_in v ++ codes "endgroup"))
-right_brace_by (Some _) v = Ends Unbuilt
+-- the innermost group ends, and the tokens that were noted in it are read next
+unfoldable pub group_ended : RestState → Begun
+group_ended r = begun (with_values (ended r.values) r) (push.Insert (insert_of (after r.values)))
+
+-- the name of a primitive in an error
+abbrev pub naming : List ℕ → List ℕ → RestState → List ℕ
+naming text name r = text ++ printed r.values (escape_in r.values ++ name)
+
+abbrev pub right_brace_by : Option GroupKind → RestState → Begun
+right_brace_by None r = beginning (start_fails (codes "Too many }'s") nothing) r
+right_brace_by (Some groups.Simple) r = group_ended r
+right_brace_by (Some groups.SemiSimple) r = beginning (start_fails (naming (codes "Extra }, or forgotten ") (codes "endgroup") r) nothing) r
+right_brace_by (Some _) r = beginning (start_ends Unbuilt) r
 
 -- a right brace ends a simple group
-unfoldable pub right_brace_row : Values → Move
-right_brace_row v = right_brace_by (kind v) v
+unfoldable pub right_brace_row : RestState → Begun
+right_brace_row r = right_brace_by (kind r.values) r
 
 -- the right brace that a group lacks
-abbrev pub missing_brace : Move
-missing_brace = failure_under (codes "Missing } inserted") (token.Char 125 2 ∷ [])
+abbrev pub missing_brace : Start
+missing_brace = start_fails_under (token.Char 125 2) (codes "Missing } inserted") nothing
 
-abbrev pub end_group_by : Option GroupKind → Values → Move
-end_group_by None v = plain_failure (codes "Extra " ++ printed v (escape_in v ++ codes "endgroup"))
-end_group_by (Some groups.Simple) v = missing_brace
-end_group_by (Some groups.SemiSimple) v = Used GroupEnd
-end_group_by (Some _) v = Ends Unbuilt
+abbrev pub end_group_by : Option GroupKind → RestState → Begun
+end_group_by None r = beginning (start_fails (naming (codes "Extra ") (codes "endgroup") r) nothing) r
+end_group_by (Some groups.Simple) r = beginning missing_brace r
+end_group_by (Some groups.SemiSimple) r = group_ended r
+end_group_by (Some _) r = beginning (start_ends Unbuilt) r
 
 -- \endgroup ends a semi simple group
-unfoldable pub end_group_row : Values → Move
-end_group_row v = end_group_by (kind v) v
+unfoldable pub end_group_row : RestState → Begun
+end_group_row r = end_group_by (kind r.values) r
 
-abbrev pub group_row : GroupEdge → Values → Planned
-group_row edges.Begin v = begin_row groups.SemiSimple v
-group_row edges.End v = planned v (end_group_row v)
+abbrev pub group_row : GroupEdge → RestState → Begun
+group_row edges.Begin r = group_begun groups.SemiSimple r
+group_row edges.End r = end_group_row r
 
 -- ---- characters and commands
 
-unfoldable pub character_row : ℕ → Values → Planned
-character_row cat v =
-    if cat == 10 then planned v (Used Nothing)
-    else if cat == 1 then begin_row groups.Simple v
-    else if cat == 2 then planned v (right_brace_row v)
-    else planned v (Ends Unbuilt)
+unfoldable pub character_row : ℕ → RestState → Begun
+character_row cat r =
+    if cat == 10 then begun r nothing
+    else if cat == 1 then group_begun groups.Simple r
+    else if cat == 2 then right_brace_row r
+    else beginning (start_ends Unbuilt) r
 
-abbrev pub after_row : AfterKind → Move
-after_row afters.Group = Used (Begin scan.AfterGroup)
-after_row afters.Assignment = Used (Begin scan.AfterAssignment)
+abbrev pub after_row : AfterKind → Start
+after_row afters.Group = scan_begun (scan.Assign assign.AfterGroup)
+after_row afters.Assignment = scan_begun (scan.Assign assign.AfterAssignment)
 
-abbrev pub message_row : MessageKind → Token → Move
-message_row messages.Message t = Stay scan.Message (Begin (scan.TextBrace t))
-message_row messages.Error t = Ends Unbuilt
+abbrev pub message_row : MessageKind → Token → Start
+message_row messages.Message t = scan_begun (scan.Text (text_for t) (finish.Control takes.Message))
+message_row messages.Error t = start_ends Unbuilt
 
 -- an assignment, or what is still to come
-abbrev pub other_row : Primitive → Values → Move
-other_row p v = if is_assignment p then assignment_begun p no_prefixes v else Ends Unbuilt
+abbrev pub other_row : Primitive → RestState → Start
+other_row p r = if is_assignment p then assignment_begun p no_prefixes r.values else start_ends Unbuilt
 
--- what the main loop does at a primitive, by families
+-- what main control does at a primitive, by families
 unfoldable pub command_of : Primitive → Command
 command_of prims.Relax = command.Nothing
 command_of prims.Par = command.Nothing
@@ -97,27 +126,31 @@ command_of (prims.Prefix kind) = command.Prefix kind
 command_of _ = command.Other
 
 -- a line for each command that is built
-unfoldable pub command_begun : Command → Primitive → Token → Values → Planned
-command_begun command.Nothing p t v = planned v (Used Nothing)
-command_begun command.End p t v = planned v (Ends Ended)
-command_begun command.EndCsName p t v = planned v (plain_failure (codes "Extra " ++ printed v (escape_in v ++ codes "endcsname")))
-command_begun (command.Group edge) p t v = group_row edge v
-command_begun (command.After kind) p t v = planned v (after_row kind)
-command_begun command.IgnoreSpaces p t v = planned v (Used (Begin scan.IgnoreSpaces))
-command_begun (command.Message kind) p t v = planned v (message_row kind t)
-command_begun (command.Prefix kind) p t v = planned v (Used (Begin (scan.Prefix (with_prefix kind no_prefixes))))
-command_begun command.Other p t v = planned v (other_row p v)
+unfoldable pub command_begun : Command → Primitive → Token → RestState → Begun
+command_begun command.Nothing p t r = begun r nothing
+command_begun command.End p t r = beginning (start_ends Ended) r
+command_begun command.EndCsName p t r = beginning (start_fails (naming (codes "Extra ") (codes "endcsname") r) nothing) r
+command_begun (command.Group edge) p t r = group_row edge r
+command_begun (command.After kind) p t r = beginning (after_row kind) r
+command_begun command.IgnoreSpaces p t r = beginning (scan_begun (scan.Control control.IgnoreSpaces)) r
+command_begun (command.Message kind) p t r = beginning (message_row kind t) r
+command_begun (command.Prefix kind) p t r = beginning (scan_begun (prefix_scan (with_prefix kind no_prefixes))) r
+command_begun command.Other p t r = beginning (other_row p r) r
 
-abbrev pub primitive_row : Primitive → Token → Values → Planned
-primitive_row p t v = command_begun (command_of p) p t v
+abbrev pub primitive_row : Primitive → Token → RestState → Begun
+primitive_row p t r = command_begun (command_of p) p t r
 
--- what a token does that isn't expanded
-unfoldable pub command_row : Token → Meaning → Values → Planned
-command_row t (means.Char code cat) v = character_row cat v
-command_row t (means.Primitive p) v = primitive_row p t v
-command_row t means.Undefined v = planned v (Ends Unbuilt)
-command_row t (means.Macro m) v = planned v (Ends Unbuilt)
+-- What a token begins. (What is expandable is expanded before it comes here; if it came, it would be expanded here.)
+unfoldable pub command_row : Token → Meaning → RestState → Begun
+command_row t (means.Char code cat) r = character_row cat r
+command_row t (means.Primitive p) r = primitive_row p t r
+command_row t means.Unexpanded r = begun r nothing
+command_row t means.EndTemplate r = beginning (start_ends Unbuilt) r
+command_row t means.Undefined r = expanded expandable.Undefined t r
+command_row t (means.Macro m) r = expanded (expandable.Call m) t r
 
--- \ignorespaces: the first token that is no space is a command
-unfoldable pub ignore_row : Token → Meaning → Values → Planned
-ignore_row t mm v = if has_category 10 mm then planned v (Stay scan.IgnoreSpaces Nothing) else command_row t mm v
+-- ---- texts
+
+-- \message: a space that parts the text from what stands on the line, and then the text
+unfoldable pub text_taken : ControlText → List Token → RestState → Finished
+text_taken takes.Message ts r = record { rest = r; ended = record { then = afterwards.Say (said_text r ts); did = did.Deed (deed.Space LogAndTerminal) } }

@@ -1,6 +1,6 @@
 -- How far the program has come with the chain of its job. The proofs need these words; nothing that is promised stands here.
-use Rattle.std.specs.Prelude.{◌≡◌, Bool, ℕ, suc, List, [], ◌∷◌, ◌++◌, Option, Some, None}
-use Rattle.etx_outside.specs.Entries.{Asked, History}
+use Rattle.std.specs.Prelude.{◌≡◌, Bool, ℕ, suc, List, ◌++◌, Option, Some, None}
+use Rattle.etx_outside.specs.Entries.{History}
 use Rattle.etx_outside.specs.Outside.{Outside, after, Front}
 use Rattle.etx_settle.specs.Deeds.{JournalState, entries, pen_after_all}
 use Rattle.etx_matter.specs.declared.deed.Deed.{Deed}

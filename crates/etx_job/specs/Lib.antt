@@ -7,5 +7,8 @@ pub mod Machine
 pub mod Meaning
 pub mod Measure
 pub mod Mouths
+pub mod Runs
+pub mod Skimming
+pub mod Texts
 pub mod Turn
 pub mod Words

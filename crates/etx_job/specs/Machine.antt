@@ -1,88 +1,113 @@
--- One turn of the machine: what stands on top of the stack, or the main loop, gets a token.
-use Rattle.std.specs.Prelude.{ℕ, Bool, true, false, nat_lt, List, [], ◌∷◌, length, if◌then◌else◌}
+-- One turn of the machine: what stands on top of the stack, or main control, gets a token or a value, by owner.
+use Rattle.std.specs.Prelude.{ℕ, nat_lt, List, [], ◌∷◌, length, if◌then◌else◌}
 use Rattle.etx_matter.specs.declared.token.Token.{Token}
 use Rattle.etx_matter.specs.declared.end.End.TheVariants.{Capacity}
 use Rattle.etx_matter.specs.declared.end.Limit.TheVariants.{InputLevels, Scans}
 use Rattle.etx_state.specs.declared.key.Meaning.{Meaning}
+use Rattle.etx_state.specs.declared.scan.ControlScan.{ControlScan}
+use Rattle.etx_state.specs.declared.scan.ControlScan.TheVariants as control
+use Rattle.etx_state.specs.declared.scan.ControlText.{ControlText}
+use Rattle.etx_state.specs.declared.scan.NumberFinish.TheVariants as number_for
+use Rattle.etx_state.specs.declared.scan.TextFinish.TheVariants as text_for
+use Rattle.etx_state.specs.declared.scan.Value.{Value}
+use Rattle.etx_state.specs.declared.scan.Value.TheVariants as value
+use Rattle.etx_state.specs.declared.scan.Keeper.{Keeper}
+use Rattle.etx_state.specs.declared.scan.Keeper.TheVariants as keeper
 use Rattle.etx_state.specs.declared.scan.Scan.{Scan}
 use Rattle.etx_state.specs.declared.scan.Scan.TheVariants as scan
 use Rattle.etx_state.specs.declared.scan.Entry.{Entry}
 use Rattle.etx_state.specs.declared.scan.Entry.TheVariants as entry
-use Rattle.etx_state.specs.States.{Mouth, with_scans}
-use Rattle.etx_expand.specs.declared.plan.Push.TheVariants.{Say}
-use Rattle.etx_expand.specs.declared.plan.Value.{Value}
-use Rattle.etx_expand.specs.declared.plan.Value.TheVariants as value
+use Rattle.etx_state.specs.Mouths.{Mouth, with_entries}
+use Rattle.etx_expand.specs.declared.fetch.Idle.{Idle}
+use Rattle.etx_expand.specs.declared.fetch.Idle.TheVariants as idle
+use Rattle.etx_expand.specs.declared.fetch.Fetched.{Fetched}
+use Rattle.etx_expand.specs.declared.fetch.Fetched.TheVariants as fetched
+use Rattle.etx_expand.specs.declared.plan.Move.TheVariants.{Stay}
 use Rattle.etx_expand.specs.declared.plan.Turned.{Turned}
 use Rattle.etx_expand.specs.declared.plan.Turned.TheVariants as turned
-use Rattle.etx_expand.specs.Moves.{After, after, pushed, scanning}
-use Rattle.etx_expand.specs.Printing.{said_text}
-use Rattle.etx_expand.specs.Turn.{turn_of}
-use Rattle.etx_assign.specs.Turn.{planned_turn, went}
-use Rattle.etx_job.specs.declared.machine.Taker.{Taker}
-use Rattle.etx_job.specs.declared.machine.Taker.TheVariants as taker
-use Rattle.etx_job.specs.Commands.{command_row, ignore_row}
+use Rattle.etx_expand.specs.Answers.{planned}
+use Rattle.etx_expand.specs.Meanings.{has_category}
+use Rattle.etx_expand.specs.Moves.{After, after, planned_turn, begun_turn, finished_turn, turned_by, error_deed}
+use Rattle.etx_expand.specs.Turn.{main_fetched, scan_fetched, expanded_turn, idle_turn, expansion_token, number_token, text_token, expand_after_turn, due_turn, say_turn}
+use Rattle.etx_assign.specs.Turn.{assign_token, future_turn, number_turn as assign_number_turn}
+use Rattle.etx_job.specs.Commands.{command_row, text_taken}
 
--- where nothing stands on the stack, the main loop waits for a command
-abbrev pub waiting_by : List Entry → Mouth → Mouth
-waiting_by [] m = scanning scan.Command m
-waiting_by (e ∷ es) m = m
+-- ---- main control
 
-unfoldable pub waiting : Mouth → Mouth
-waiting m = waiting_by m.scans m
+-- a token is a command
+abbrev pub command_turn : Token → Meaning → Mouth → After
+command_turn t mm m = begun_turn t (command_row t mm m.rest) m
 
--- who takes a value, by what stands on top of the stack
-abbrev pub taker_by : Scan → Taker
-taker_by scan.IgnoreSpaces = taker.IgnoreSpaces
-taker_by scan.Message = taker.Message
-taker_by _ = taker.Assignment
+abbrev pub main_idle : Idle → Mouth → After
+main_idle (idle.Expands t what) m = expanded_turn what t m
+main_idle (idle.Over d) m = after m (turned_by d m)
+main_idle (idle.Cut text) m = after m (error_deed text m)
 
-abbrev pub taker_at : Entry → Taker
-taker_at (entry.Scan f) = taker_by f
-taker_at (entry.Kept t by) = taker.Assignment
-taker_at (entry.PutBack t) = taker.Assignment
-taker_at (entry.Say text is_parted) = taker.Assignment
+abbrev pub main_with : Fetched → Mouth → After
+main_with (fetched.Token t mm) m = command_turn t mm m
+main_with (fetched.Idle i) m = main_idle i m
 
--- the main loop's scan is gone when it is handed its token
-unfoldable pub taker_of : List Entry → Taker
-taker_of [] = taker.MainLoop
-taker_of (e ∷ es) = taker_at e
+-- where nothing stands on the stack
+unfoldable pub main_turn : Mouth → After
+main_turn m = main_with (main_fetched m).fetched (main_fetched m).now
 
-abbrev pub below : List Entry → List Entry
-below [] = []
-below (e ∷ es) = es
+-- \ignorespaces: the first token that is no space is a command
+abbrev pub behind_spaces : ℕ → Token → Meaning → Mouth → After
+behind_spaces left t mm m = if has_category 10 mm then planned_turn left t (planned m.rest (Stay (scan.Control control.IgnoreSpaces))) m else command_turn t mm m
 
-abbrev pub without_top : Mouth → Mouth
-without_top m = with_scans (below m.scans) m
+abbrev pub control_token : ℕ → ControlScan → Token → Meaning → Mouth → After
+control_token left control.IgnoreSpaces t mm m = behind_spaces left t mm m
 
--- a token: the main loop, \ignorespaces, or an assignment takes it
-unfoldable pub one_taken : Taker → Token → Meaning → Mouth → After
-one_taken taker.MainLoop t mm m = planned_turn t (command_row t mm m.values) m
-one_taken taker.IgnoreSpaces t mm m = planned_turn t (ignore_row t mm m.values) (without_top m)
-one_taken taker.Message t mm m = went (value.One t mm) m
-one_taken taker.Assignment t mm m = went (value.One t mm) m
+abbrev pub control_text_turn : ℕ → ControlText → List Token → Mouth → After
+control_text_turn left f ts m = finished_turn left (text_taken f ts m.rest) m
 
--- a text: \message says it
-unfoldable pub list_taken : Taker → List Token → Mouth → After
-list_taken taker.MainLoop ts m = went (value.List ts) m
-list_taken taker.IgnoreSpaces ts m = went (value.List ts) m
-list_taken taker.Message ts m = after (pushed (Say (said_text m ts)) (without_top m)) turned.Again
-list_taken taker.Assignment ts m = went (value.List ts) m
+-- ---- by owner
 
-unfoldable pub taken : Value → Mouth → After
-taken (value.One t mm) m = one_taken (taker_of m.scans) t mm m
-taken (value.List ts) m = list_taken (taker_of m.scans) ts m
+-- a token that isn't expanded
+abbrev pub scan_token : ℕ → Scan → Token → Meaning → Mouth → After
+scan_token left (scan.Expansion e) t mm m = expansion_token left e t mm m
+scan_token left (scan.Number n f) t mm m = number_token left n f t mm m
+scan_token left (scan.Text o f) t mm m = text_token left o f t mm m
+scan_token left (scan.Assign a) t mm m = assign_token left a t mm m
+scan_token left (scan.Control c) t mm m = control_token left c t mm m
 
--- a value that is whole is taken at once
-abbrev pub by_turned : Turned → Mouth → After
-by_turned turned.Again m = after m turned.Again
-by_turned (turned.Ready v) m = taken v m
-by_turned (turned.Deed d) m = after m (turned.Deed d)
-by_turned (turned.End e) m = after m (turned.End e)
+abbrev pub scan_with : ℕ → Scan → Fetched → Mouth → After
+scan_with left s (fetched.Token t mm) m = scan_token left s t mm m
+scan_with left s (fetched.Idle i) m = idle_turn left s i m
+
+unfoldable pub scan_turn : ℕ → Scan → Mouth → After
+scan_turn left s m = scan_with left s (scan_fetched s m).fetched (scan_fetched s m).now
+
+-- a value
+abbrev pub value_turn : ℕ → Value → Mouth → After
+value_turn left (value.Number n (number_for.Assign f)) m = assign_number_turn left f n m
+value_turn left (value.Text ts (text_for.Control f)) m = control_text_turn left f ts m
+
+abbrev pub kept_turn : Token → Keeper → Mouth → After
+kept_turn kept keeper.ExpandAfter m = expand_after_turn kept m
+kept_turn kept (keeper.Future is_global name) m = future_turn is_global name kept m
+
+abbrev pub entry_turn : Entry → Mouth → After
+entry_turn (entry.Scan left s) m = scan_turn left s m
+entry_turn (entry.Given left v) m = value_turn left v m
+entry_turn (entry.Kept kept by) m = kept_turn kept by m
+entry_turn (entry.Due t) m = due_turn t m
+entry_turn (entry.Say text) m = say_turn text m
+
+-- what stands on top is taken off first
+abbrev pub top_turn : List Entry → Mouth → After
+top_turn [] m = main_turn m
+top_turn (e ∷ es) m = entry_turn e (with_entries es m)
+
+unfoldable pub stack_turn : Mouth → After
+stack_turn m = top_turn m.entries m
+
+-- ---- the limits
 
 -- a turn that passes a limit ends the job
 abbrev pub fitting : Mouth → Turned → Turned
 fitting m t =
-    if nat_lt 10000 (length m.scans) then turned.End (Capacity Scans)
+    if nat_lt 10000 (length m.entries) then turned.End (Capacity Scans)
     else if nat_lt 10000 (length m.input.levels) then turned.End (Capacity InputLevels)
     else t
 
@@ -91,4 +116,4 @@ fitted a = after a.now (fitting a.now a.turned)
 
 -- a turn of the machine
 unfoldable pub machine_turn : Mouth → After
-machine_turn m = fitted (by_turned (turn_of (waiting m)).turned (turn_of (waiting m)).now)
+machine_turn m = fitted (stack_turn m)

@@ -1,5 +1,5 @@
 -- What the words of the command line mean: a history and a status.
-use Rattle.std.specs.Prelude.{◌≡◌, ℕ, suc, Bool, true, false, List, [], ◌∷◌, ◌++◌, Option, Some, None, MatchOption, codes}
+use Rattle.std.specs.Prelude.{◌≡◌, ℕ, suc, Bool, true, false, List, [], ◌∷◌, ◌++◌, Some, MatchOption, codes}
 use Rattle.etx_outside.specs.Entries.{Files, Asked, History, shown}
 use Rattle.etx_outside.specs.Outside.{Outside, after, Faults}
 use Rattle.etx_outside.specs.Faults.{Rose}

@@ -8,12 +8,12 @@ use Rattle.etx_matter.specs.declared.end.End.TheVariants.{Fatal}
 use Rattle.etx_matter.specs.declared.end.FatalError.TheVariants.{FileError}
 use Rattle.etx_input.specs.Files.{unread}
 use Rattle.etx_input.specs.Levels.{with_file, line_number}
-use Rattle.etx_state.specs.States.{Mouth, first_mouth as first_machine, with_input}
+use Rattle.etx_state.specs.Mouths.{Mouth, first_mouth as first_machine, with_input}
 use Rattle.etx_expand.specs.declared.plan.Turned.{Turned as Came}
 use Rattle.etx_expand.specs.declared.plan.Turned.TheVariants as came
 use Rattle.etx_expand.specs.Moves.{After}
 use Rattle.etx_job.specs.declared.mouth.Source.{Source}
-use Rattle.etx_job.specs.declared.mouth.Source.TheVariants.{Unasked, Awaited, Absent, Refused, Reading}
+use Rattle.etx_job.specs.declared.mouth.Source.TheVariants.{Unasked, Absent, Refused, Reading}
 use Rattle.etx_job.specs.declared.yields.Yield.{Yield}
 use Rattle.etx_job.specs.declared.yields.Yield.TheVariants.{Quiet, Act, Load, Done}
 use Rattle.etx_job.specs.Mouths.{MouthState, mouth_at}
@@ -35,10 +35,9 @@ first_mouth name = mouth_at (Unasked name) first_machine
 unfoldable pub line_number_of : MouthState → ℕ
 line_number_of v = line_number v.machine.input
 
--- What a turn of the machine yields. It leaves no value that nothing took.
+-- what a turn of the machine yields
 abbrev pub yield_of : Came → Yield
 yield_of came.Again = Quiet
-yield_of (came.Ready value) = Quiet
 yield_of (came.Deed d) = Act d
 yield_of (came.End e) = Done e
 
@@ -48,10 +47,9 @@ machine_turned a = turned (mouth_at Reading a.now) (yield_of a.turned)
 abbrev pub cant_find : List ℕ → List ℕ
 cant_find name = codes "I can't find file `" ++ name ++ codes "'"
 
--- A line for each source. A mouth that awaits an answer makes no turn before it has it.
+-- A line for each source. The main file is asked for first; what it holds comes by its answer.
 abbrev pub source_turn : Source → Mouth → Turned
-source_turn (Unasked name) m = turned (mouth_at (Awaited name) m) (Load name)
-source_turn (Awaited name) m = turned (mouth_at Refused m) (Done (Fatal FileError))
+source_turn (Unasked name) m = turned (mouth_at Reading m) (Load name)
 source_turn (Absent name) m = turned (mouth_at Refused m) (Act (Error (cant_find name) 0 LogAndTerminal))
 source_turn Refused m = turned (mouth_at Refused m) (Done (Fatal FileError))
 source_turn Reading m = machine_turned (machine_turn m)
@@ -59,20 +57,12 @@ source_turn Reading m = machine_turned (machine_turn m)
 unfoldable pub turn_of : MouthState → Turned
 turn_of v = source_turn v.source v.machine
 
--- the answer of the load of the main file: its text is read from the beginning
+-- the answer of the load of this name: a text is read before all else, from its beginning
 abbrev pub answered : List ℕ → Loaded → Mouth → MouthState
 answered name loaded.Absent m = mouth_at (Absent name) m
 answered name loaded.TooLong m = mouth_at Refused m
 answered name (loaded.Bytes text) m = mouth_at Reading (with_input (with_file (unread text) m.input) m)
 
--- only a mouth that awaits an answer is given one
-abbrev pub source_resumed : Source → Loaded → Mouth → MouthState
-source_resumed (Unasked name) loaded m = mouth_at Refused m
-source_resumed (Awaited name) loaded m = answered name loaded m
-source_resumed (Absent name) loaded m = mouth_at Refused m
-source_resumed Refused loaded m = mouth_at Refused m
-source_resumed Reading loaded m = mouth_at Refused m
-
--- the mouth takes the answer of a load
-unfoldable pub resumed : MouthState → Loaded → MouthState
-resumed v loaded = source_resumed v.source loaded v.machine
+-- the mouth takes the answer of the load of a name
+unfoldable pub resumed : List ℕ → MouthState → Loaded → MouthState
+resumed name v loaded = answered name loaded v.machine

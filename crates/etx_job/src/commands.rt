@@ -1,21 +1,24 @@
-//! The rows of the main loop: what each command does, in vertical mode.
+//! The rows of main control: what each command begins in vertical mode, and what it does with a text.
 ghost use Rattle.std.specs.Prelude.{◌≡◌, ◌++◌, OnOk, IfOk};
-ghost use Rattle.etx_state.specs.States.{mouth_of, with_values};
-ghost use Rattle.etx_job.specs.Commands.{begin_row, right_brace_row, missing_brace, end_group_row, group_row, character_row, after_row, message_row, other_row, command_of, command_begun, primitive_row, command_row, ignore_row};
-ghost use Rattle.etx_expand.specs.Turn.{plain_failure};
-ghost use Rattle.etx_expand.specs.Printing.{escape_in, printed};
+ghost use Rattle.etx_state.specs.Rests.{rest_of, Keeps};
+ghost use Rattle.etx_expand.specs.Answers.{nothing, start_fails};
+ghost use Rattle.etx_job.specs.Commands.{group_begun, group_ended, naming, right_brace_row, missing_brace, end_group_row, group_row, character_row, after_row, message_row, other_row, command_of, command_begun, primitive_row, command_row, text_taken};
 
-use etx_assign::{begin, is_assignment, no_prefixes, with_prefix};
-use etx_expand::{Failure, Move, Push, has_category, push_escaped};
+use etx_assign::{begin, is_assignment, no_prefixes, prefix_scan, with_prefix};
+use etx_expand::{
+    Did, Ended, Expandable, Push, Start, Then, expansion_begun, insert_tokens, nothing,
+    push_escaped, said_text, start_ends, start_fails, start_fails_under, starting, text_for,
+};
 use etx_groups::begin as begin_group;
-use etx_input::SharedTokens;
 use etx_lists::Bytes;
-use etx_matter::{End, Limit, Token, Tokens};
+use etx_matter::{Audience, Boxed, Deed, End, Limit, Token, Tokens};
 use etx_prims::{AfterKind, GroupEdge, MessageKind, PrefixKind, Primitive};
-use etx_state::{GroupKind, MOST_GROUPS, Meaning, Scan, State};
-use std::alloc::AllocError;
+use etx_state::{
+    AssignScan, ControlScan, ControlText, GroupKind, MOST_GROUPS, Meaning, Rest, Scan, TextFinish,
+};
+use std::alloc::{AllocError, Global};
 
-/// What the main loop does at a primitive.
+/// What main control does at a primitive.
 #[derive(Clone, Copy)]
 pub enum Command {
     /// Nothing at all.
@@ -39,142 +42,146 @@ pub enum Command {
 }
 
 /// A group begins, unless 10000 are open.
-#[tactic(auto, unfolding(crate::specs::Commands::begin_row))]
-fn open_group(s: &mut State, kind: GroupKind) -> Result<Move, AllocError>
-    ensures now { OnOk result (mouth_of s.new ≡ with_values (begin_row kind (mouth_of s.old).values).values (mouth_of s.old)) }
-    ensures go { IfOk result (λ go. go ≡ (begin_row kind (mouth_of s.old).values).go) }
+#[tactic(auto, unfolding(crate::specs::Commands::group_begun))]
+fn group_begun(rest: &mut Rest, kind: GroupKind) -> Result<Start, AllocError>
+    ensures rest { OnOk result (rest_of rest.new ≡ (group_begun kind (rest_of rest.old)).rest) }
+    ensures start { IfOk result (λ start. start ≡ (group_begun kind (rest_of rest.old)).start) }
+    ensures kept { Keeps rest.old rest.new }
 {
-    if s.level() == MOST_GROUPS {
-        return Ok(Move::Ends(End::Capacity(Limit::Groups)));
+    if rest.level() == MOST_GROUPS {
+        return Ok(start_ends(End::Capacity(Limit::Groups)));
     }
-    match begin_group(s, kind) {
-        Ok(()) => Ok(Move::Used(Push::Nothing)),
+    match begin_group(rest, kind) {
+        Ok(()) => Ok(starting(nothing())),
         Err(_) => Err(AllocError),
     }
 }
 
-/// An error, after which the token is gone.
-fn fail(s: &State, text: &[u8]) -> Result<Move, AllocError>
-    ensures { IfOk result (λ go. go ≡ plain_failure text.now) }
+/// The innermost group ends, and the tokens that were noted in it are read next.
+#[tactic(auto, unfolding(crate::specs::Commands::group_ended))]
+fn group_ended(rest: &mut Rest) -> Result<Start, AllocError>
+    ensures rest { OnOk result (rest_of rest.new ≡ (group_ended (rest_of rest.old)).rest) }
+    ensures start { IfOk result (λ start. start ≡ (group_ended (rest_of rest.old)).start) }
+    ensures kept { Keeps rest.old rest.new }
 {
-    Ok(Move::Fails(Failure {
-        text: Bytes::from_slice(s.alloc(), text)?,
-        scan: None,
-        is_back: false,
-        inserted: SharedTokens::new(s.alloc(), Tokens::new(s.alloc()))?,
-    }))
+    let ended = rest.end()?;
+    let noted = insert_tokens(rest.alloc(), ended.tokens)?;
+    Ok(starting(Push::Insert(noted)))
 }
 
-/// The same, where the text ends with the name of a primitive.
-fn fail_at(s: &State, text: &[u8], name: &[u8]) -> Result<Move, AllocError>
-    ensures { IfOk result (λ go. go ≡ plain_failure (text.now ++ printed (mouth_of s.now).values (escape_in (mouth_of s.now).values ++ name.now))) }
+/// An error whose text ends with the name of a primitive.
+fn fail_at(rest: &Rest, text: &[u8], name: &[u8]) -> Result<Start, AllocError>
+    ensures { IfOk result (λ start. start ≡ start_fails (naming text.now name.now (rest_of rest.now)) nothing) }
 {
-    let mut whole = Bytes::from_slice(s.alloc(), text)?;
-    push_escaped(s, &mut whole, name)?;
-    fail(s, whole.as_slice())
+    let mut whole = Bytes::from_slice(rest.alloc(), text)?;
+    push_escaped(rest, &mut whole, name)?;
+    start_fails(rest.alloc(), whole.as_slice(), nothing())
+}
+
+/// A right brace ends a simple group.
+#[tactic(auto, unfolding(crate::specs::Commands::right_brace_row))]
+fn right_brace_row(rest: &mut Rest) -> Result<Start, AllocError>
+    ensures rest { OnOk result (rest_of rest.new ≡ (right_brace_row (rest_of rest.old)).rest) }
+    ensures start { IfOk result (λ start. start ≡ (right_brace_row (rest_of rest.old)).start) }
+    ensures kept { Keeps rest.old rest.new }
+{
+    match rest.kind() {
+        None => start_fails(rest.alloc(), b"Too many }'s", nothing()),
+        Some(GroupKind::Simple) => group_ended(rest),
+        Some(GroupKind::SemiSimple) => fail_at(rest, b"Extra }, or forgotten ", b"endgroup"),
+        Some(_) => Ok(start_ends(End::Unbuilt)),
+    }
 }
 
 /// The right brace that a group lacks is inserted.
-fn insert_brace(s: &State) -> Result<Move, AllocError>
-    ensures { IfOk result (λ go. go ≡ missing_brace) }
+fn missing_brace(alloc: Global) -> Result<Start, AllocError>
+    ensures { IfOk result (λ start. start ≡ missing_brace) }
 {
     let brace = Token::Char { code: b'}', cat: 2 };
-    Ok(Move::Fails(Failure {
-        text: Bytes::from_slice(s.alloc(), b"Missing } inserted")?,
-        scan: None,
-        is_back: true,
-        inserted: SharedTokens::new(s.alloc(), Tokens::from_slice(s.alloc(), &[brace])?)?,
-    }))
+    start_fails_under(alloc, brace, b"Missing } inserted", nothing())
 }
 
-/// A right brace.
-#[tactic(auto, unfolding(crate::specs::Commands::right_brace_row))]
-fn right_brace(s: &State) -> Result<Move, AllocError>
-    ensures { IfOk result (λ go. go ≡ right_brace_row (mouth_of s.now).values) }
-{
-    match s.kind() {
-        None => fail(s, b"Too many }'s"),
-        Some(GroupKind::Simple) => Ok(Move::Used(Push::GroupEnd)),
-        Some(GroupKind::SemiSimple) => fail_at(s, b"Extra }, or forgotten ", b"endgroup"),
-        Some(_) => Ok(Move::Ends(End::Unbuilt)),
-    }
-}
-
-/// `\endgroup`.
+/// `\endgroup` ends a semi simple group.
 #[tactic(auto, unfolding(crate::specs::Commands::end_group_row))]
-fn end_group(s: &State) -> Result<Move, AllocError>
-    ensures { IfOk result (λ go. go ≡ end_group_row (mouth_of s.now).values) }
+fn end_group_row(rest: &mut Rest) -> Result<Start, AllocError>
+    ensures rest { OnOk result (rest_of rest.new ≡ (end_group_row (rest_of rest.old)).rest) }
+    ensures start { IfOk result (λ start. start ≡ (end_group_row (rest_of rest.old)).start) }
+    ensures kept { Keeps rest.old rest.new }
 {
-    match s.kind() {
-        None => fail_at(s, b"Extra ", b"endgroup"),
-        Some(GroupKind::Simple) => insert_brace(s),
-        Some(GroupKind::SemiSimple) => Ok(Move::Used(Push::GroupEnd)),
-        Some(_) => Ok(Move::Ends(End::Unbuilt)),
+    match rest.kind() {
+        None => fail_at(rest, b"Extra ", b"endgroup"),
+        Some(GroupKind::Simple) => missing_brace(rest.alloc()),
+        Some(GroupKind::SemiSimple) => group_ended(rest),
+        Some(_) => Ok(start_ends(End::Unbuilt)),
     }
 }
 
-fn group(s: &mut State, edge: GroupEdge) -> Result<Move, AllocError>
-    ensures now { OnOk result (mouth_of s.new ≡ with_values (group_row edge (mouth_of s.old).values).values (mouth_of s.old)) }
-    ensures go { IfOk result (λ go. go ≡ (group_row edge (mouth_of s.old).values).go) }
+fn group_row(rest: &mut Rest, edge: GroupEdge) -> Result<Start, AllocError>
+    ensures rest { OnOk result (rest_of rest.new ≡ (group_row edge (rest_of rest.old)).rest) }
+    ensures start { IfOk result (λ start. start ≡ (group_row edge (rest_of rest.old)).start) }
+    ensures kept { Keeps rest.old rest.new }
 {
     match edge {
-        GroupEdge::Begin => open_group(s, GroupKind::SemiSimple),
-        GroupEdge::End => end_group(s),
+        GroupEdge::Begin => group_begun(rest, GroupKind::SemiSimple),
+        GroupEdge::End => end_group_row(rest),
     }
 }
 
 /// A character, by its category.
 #[tactic(auto, unfolding(crate::specs::Commands::character_row))]
-fn character(s: &mut State, cat: u8) -> Result<Move, AllocError>
-    ensures now { OnOk result (mouth_of s.new ≡ with_values (character_row cat (mouth_of s.old).values).values (mouth_of s.old)) }
-    ensures go { IfOk result (λ go. go ≡ (character_row cat (mouth_of s.old).values).go) }
+fn character_row(rest: &mut Rest, cat: u8) -> Result<Start, AllocError>
+    ensures rest { OnOk result (rest_of rest.new ≡ (character_row cat (rest_of rest.old)).rest) }
+    ensures start { IfOk result (λ start. start ≡ (character_row cat (rest_of rest.old)).start) }
+    ensures kept { Keeps rest.old rest.new }
 {
     if cat == 10 {
-        Ok(Move::Used(Push::Nothing))
+        Ok(starting(nothing()))
     } else if cat == 1 {
-        open_group(s, GroupKind::Simple)
+        group_begun(rest, GroupKind::Simple)
     } else if cat == 2 {
-        right_brace(s)
+        right_brace_row(rest)
     } else {
-        Ok(Move::Ends(End::Unbuilt))
+        Ok(start_ends(End::Unbuilt))
     }
 }
 
-fn keep(kind: AfterKind) -> Move
+/// `\aftergroup` and `\afterassignment` wait for their token.
+fn after_row(kind: AfterKind) -> Start
     ensures { result ≡ after_row kind }
 {
     match kind {
-        AfterKind::Group => Move::Used(Push::Begin(Scan::AfterGroup)),
-        AfterKind::Assignment => Move::Used(Push::Begin(Scan::AfterAssignment)),
+        AfterKind::Group => starting(Push::Begin(Scan::Assign(AssignScan::AfterGroup))),
+        AfterKind::Assignment => starting(Push::Begin(Scan::Assign(AssignScan::AfterAssignment))),
     }
 }
 
-fn message(kind: MessageKind, token: Token) -> Move
-    ensures { result ≡ message_row kind token }
+/// `\message` waits for its text.
+fn message_row(alloc: Global, kind: MessageKind, token: Token) -> Result<Start, AllocError>
+    ensures { IfOk result (λ start. start ≡ message_row kind token) }
 {
     match kind {
-        MessageKind::Message => Move::Stay(
-            Scan::Message,
-            Push::Begin(Scan::TextBrace { reader: token }),
-        ),
-        MessageKind::Error => Move::Ends(End::Unbuilt),
+        MessageKind::Message => Ok(starting(Push::Begin(Scan::Text {
+            text: Boxed::new(alloc, text_for(alloc, token))?,
+            finish: TextFinish::Control(ControlText::Message),
+        }))),
+        MessageKind::Error => Ok(start_ends(End::Unbuilt)),
     }
 }
 
 /// An assignment, or what is still to come.
-fn other(s: &State, primitive: Primitive) -> Result<Move, AllocError>
-    ensures { IfOk result (λ go. go ≡ other_row primitive (mouth_of s.now).values) }
+fn other_row(rest: &Rest, primitive: Primitive) -> Result<Start, AllocError>
+    ensures { IfOk result (λ start. start ≡ other_row primitive (rest_of rest.now)) }
 {
     if is_assignment(primitive) {
-        begin(s, primitive, no_prefixes())
+        begin(rest, primitive, no_prefixes())
     } else {
-        Ok(Move::Ends(End::Unbuilt))
+        Ok(start_ends(End::Unbuilt))
     }
 }
 
-/// What the main loop does at a primitive.
+/// What main control does at a primitive.
 #[tactic(auto, unfolding(crate::specs::Commands::command_of))]
-fn find_command(primitive: Primitive) -> Command
+fn command_of(primitive: Primitive) -> Command
     ensures { result ≡ command_of primitive }
 {
     match primitive {
@@ -193,61 +200,80 @@ fn find_command(primitive: Primitive) -> Command
 
 /// A line for each command that is built.
 #[tactic(auto, unfolding(crate::specs::Commands::command_begun))]
-fn begin_command(
-    s: &mut State,
+fn command_begun(
+    rest: &mut Rest,
     command: Command,
     primitive: Primitive,
     token: Token,
-) -> Result<Move, AllocError>
-    ensures now { OnOk result (mouth_of s.new ≡ with_values (command_begun command primitive token (mouth_of s.old).values).values (mouth_of s.old)) }
-    ensures go { IfOk result (λ go. go ≡ (command_begun command primitive token (mouth_of s.old).values).go) }
+) -> Result<Start, AllocError>
+    ensures rest { OnOk result (rest_of rest.new ≡ (command_begun command primitive token (rest_of rest.old)).rest) }
+    ensures start { IfOk result (λ start. start ≡ (command_begun command primitive token (rest_of rest.old)).start) }
+    ensures kept { Keeps rest.old rest.new }
 {
     match command {
-        Command::Nothing => Ok(Move::Used(Push::Nothing)),
-        Command::End => Ok(Move::Ends(End::Ended)),
-        Command::EndCsName => fail_at(s, b"Extra ", b"endcsname"),
-        Command::Group(edge) => group(s, edge),
-        Command::After(kind) => Ok(keep(kind)),
-        Command::IgnoreSpaces => Ok(Move::Used(Push::Begin(Scan::IgnoreSpaces))),
-        Command::Message(kind) => Ok(message(kind, token)),
-        Command::Prefix(kind) => Ok(Move::Used(Push::Begin(Scan::Prefix(with_prefix(
+        Command::Nothing => Ok(starting(nothing())),
+        Command::End => Ok(start_ends(End::Ended)),
+        Command::EndCsName => fail_at(rest, b"Extra ", b"endcsname"),
+        Command::Group(edge) => group_row(rest, edge),
+        Command::After(kind) => Ok(after_row(kind)),
+        Command::IgnoreSpaces => Ok(starting(Push::Begin(Scan::Control(
+            ControlScan::IgnoreSpaces,
+        )))),
+        Command::Message(kind) => message_row(rest.alloc(), kind, token),
+        Command::Prefix(kind) => Ok(starting(Push::Begin(prefix_scan(with_prefix(
             kind,
             no_prefixes(),
         ))))),
-        Command::Other => other(s, primitive),
+        Command::Other => other_row(rest, primitive),
     }
 }
 
-fn primitive(s: &mut State, primitive: Primitive, token: Token) -> Result<Move, AllocError>
-    ensures now { OnOk result (mouth_of s.new ≡ with_values (primitive_row primitive token (mouth_of s.old).values).values (mouth_of s.old)) }
-    ensures go { IfOk result (λ go. go ≡ (primitive_row primitive token (mouth_of s.old).values).go) }
+fn primitive_row(rest: &mut Rest, primitive: Primitive, token: Token) -> Result<Start, AllocError>
+    ensures rest { OnOk result (rest_of rest.new ≡ (primitive_row primitive token (rest_of rest.old)).rest) }
+    ensures start { IfOk result (λ start. start ≡ (primitive_row primitive token (rest_of rest.old)).start) }
+    ensures kept { Keeps rest.old rest.new }
 {
-    begin_command(s, find_command(primitive), primitive, token)
+    command_begun(rest, command_of(primitive), primitive, token)
 }
 
-/// Carries out a token that isn't expanded.
+/// What a token begins. What is expandable is expanded before it comes here.
 #[tactic(auto, unfolding(crate::specs::Commands::command_row))]
-pub fn carry_out(s: &mut State, token: Token, meaning: &Meaning) -> Result<Move, AllocError>
-    ensures now { OnOk result (mouth_of s.new ≡ with_values (command_row token meaning.now (mouth_of s.old).values).values (mouth_of s.old)) }
-    ensures go { IfOk result (λ go. go ≡ (command_row token meaning.now (mouth_of s.old).values).go) }
+pub(crate) fn command_row(
+    rest: &mut Rest,
+    token: Token,
+    meaning: Meaning,
+) -> Result<Start, AllocError>
+    ensures rest { OnOk result (rest_of rest.new ≡ (command_row token meaning (rest_of rest.old)).rest) }
+    ensures start { IfOk result (λ start. start ≡ (command_row token meaning (rest_of rest.old)).start) }
+    ensures kept { Keeps rest.old rest.new }
 {
     match meaning {
-        Meaning::Char { cat, .. } => character(s, *cat),
-        Meaning::Primitive(kind) => primitive(s, *kind, token),
-        Meaning::Undefined => Ok(Move::Ends(End::Unbuilt)),
-        Meaning::Macro(_) => Ok(Move::Ends(End::Unbuilt)),
+        Meaning::Char { cat, .. } => character_row(rest, cat),
+        Meaning::Primitive(primitive) => primitive_row(rest, primitive, token),
+        Meaning::Unexpanded => Ok(starting(nothing())),
+        Meaning::EndTemplate => Ok(start_ends(End::Unbuilt)),
+        Meaning::Undefined => expansion_begun(rest.alloc(), Expandable::Undefined, token),
+        Meaning::Macro(made) => expansion_begun(rest.alloc(), Expandable::Call(made), token),
     }
 }
 
-/// `\ignorespaces` takes the first token that is no space for a command.
-#[tactic(auto, unfolding(crate::specs::Commands::ignore_row))]
-pub fn behind_spaces(s: &mut State, token: Token, meaning: &Meaning) -> Result<Move, AllocError>
-    ensures now { OnOk result (mouth_of s.new ≡ with_values (ignore_row token meaning.now (mouth_of s.old).values).values (mouth_of s.old)) }
-    ensures go { IfOk result (λ go. go ≡ (ignore_row token meaning.now (mouth_of s.old).values).go) }
+/// `\message`: a space that parts the text from what stands on the line, and then the text.
+#[tactic(auto, unfolding(crate::specs::Commands::text_taken))]
+pub(crate) fn text_taken(
+    rest: &Rest,
+    finish: ControlText,
+    tokens: &Tokens,
+) -> Result<Ended, AllocError>
+    ensures ended { IfOk result (λ ended. ended ≡ (text_taken finish tokens.now (rest_of rest.now)).ended) }
+    ensures rest { OnOk result ((text_taken finish tokens.now (rest_of rest.now)).rest ≡ rest_of rest.now) }
 {
-    if has_category(10, meaning) {
-        Ok(Move::Stay(Scan::IgnoreSpaces, Push::Nothing))
-    } else {
-        carry_out(s, token, meaning)
+    match finish {
+        ControlText::Message => {
+            let text = said_text(rest, tokens.as_slice())?;
+            Ok(Ended {
+                then: Then::Say(text),
+                did: Did::Deed(Boxed::new(rest.alloc(), Deed::Space(Audience::LogAndTerminal))?),
+            })
+        }
     }
 }

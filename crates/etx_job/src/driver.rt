@@ -1,6 +1,6 @@
-//! The driver: it makes the turns of a job's mouth, puts the deeds that they yield into a journal, and flushes it after
-//! each deed, before anything is asked for, and at the end.
-ghost use Rattle.std.specs.Prelude.{◌≡◌, ◌<◌, ◌≤◌, ◌+◌, ◌^◌, ◌++◌, [], ◌∷◌, List, ℕ, true, false, Option, Some, None, IfOk, OnOk, OnErr, IsErrOf};
+//! The driver: it lets a job's mouth make turns up to one that yields something, puts the deeds into a journal, and flushes it
+//! after each deed, before anything is asked for, and at the end.
+ghost use Rattle.std.specs.Prelude.{◌≡◌, ◌<◌, ◌≤◌, ◌++◌, [], ◌∷◌, List, ℕ, true, false, Option, Some, None, IfOk, OnOk, OnErr, IsErrOf};
 ghost use Rattle.etx_outside.specs.Faults.{Rose};
 ghost use Rattle.etx_outside.specs.Entries.{Asked};
 ghost use Rattle.etx_outside.specs.Loading.{load_of};
@@ -8,16 +8,16 @@ ghost use Rattle.etx_outside.specs.Outside.{Outside, outside_of, after, Front, F
 ghost use Rattle.etx_settle.specs.Deeds.{JournalState, AllOpen, first_pen};
 ghost use Rattle.etx_job.specs.Errors.{is_error};
 ghost use Rattle.etx_job.specs.Mouths.{MouthState, state_of};
-ghost use Rattle.etx_job.specs.Measure.{GoesOn, IsNoMore};
+ghost use Rattle.etx_job.specs.Measure.{GoesOn, CountsOn, IsAnswered};
 ghost use Rattle.etx_job.specs.Words.{log_name};
 ghost use Rattle.etx_job.specs.Chain.{Start, printed, last_line, closing_by, reason_of, closing_fatally, full_text, closing_full, closing};
 ghost use Rattle.etx_job.specs.Meaning.{AtAsk};
-ghost use Rattle.etx_job.specs.Going.{more_waiting, IsFor, Going, AfterTurn, Asks, Acts, Cut, Settled};
+ghost use Rattle.etx_job.specs.Going.{more_waiting, IsFor, Going, Over, AfterTurn, Asks, Acts, Cut, Settled};
 
 use crate::fault::Fault;
 use crate::mouth::Mouth;
 use crate::words::name_log;
-use crate::yields::Yield;
+use crate::yields::Halt;
 use etx_lists::Bytes;
 use etx_matter::{Audience, Deed, End, FatalError, Job, Limit};
 use etx_outside::{Loaded, Terminal, Tree, TreeFault};
@@ -168,6 +168,7 @@ fn act<F: Tree, T: Terminal>(
     ensures counted { OnOk result (is_error deed ≡ true → errors.old < errors.new) }
     ensures same { OnOk result (is_error deed ≡ false → errors.new ≡ errors.old) }
     ensures later { NoneFell (faults_of F.faults T.faults tree.old terminal.old) (faults_of F.faults T.faults tree.new terminal.new) }
+    ensures steady { OnOk result (F.counts_only_faults → T.counts_only_faults → faults_of F.faults T.faults tree.new terminal.new ≡ faults_of F.faults T.faults tree.old terminal.old) }
     ensures cause { IsErrOf result FlushFault.WriteFault → WriteRose (faults_of F.faults T.faults tree.old terminal.old) (faults_of F.faults T.faults tree.new terminal.new) }
 {
     let is_error = is_error(&deed);
@@ -197,6 +198,7 @@ fn load<F: Tree, T: Terminal>(
     ensures front { F.tells → Front (Asked name.now ∷ []) (outside_of F.files F.asked T.text tree.old terminal.now) (outside_of F.files F.asked T.text tree.new terminal.now) }
     ensures open { (q : List ℕ) → F.is_open tree.old q → F.is_open tree.new q }
     ensures later { NoneFell (faults_of F.faults T.faults tree.old terminal.now) (faults_of F.faults T.faults tree.new terminal.now) }
+    ensures steady { OnOk result (F.counts_only_faults → T.counts_only_faults → faults_of F.faults T.faults tree.new terminal.now ≡ faults_of F.faults T.faults tree.old terminal.now) }
     ensures cause { IsErrOf result TreeFault.Failed → Rose (faults_of F.faults T.faults tree.old terminal.now).reads (faults_of F.faults T.faults tree.new terminal.now).reads }
 {
     match tree.load(alloc, name) {
@@ -226,8 +228,9 @@ fn ask<F: Tree, T: Terminal>(
         Asks start first (state_of mouth.old) errors journal.old name.now (outside_of F.files F.asked T.text tree.old terminal.old)
         → AtAsk start first (outside_of F.files F.asked T.text tree.new terminal.new) }
     ensures opened { OnOk result (AllOpen (F.is_open tree.new) journal.new.pen.created) }
-    ensures no_more { OnOk result (IsNoMore (state_of mouth.old) (state_of mouth.new)) }
+    ensures answered { OnOk result (IsAnswered (state_of mouth.old) (state_of mouth.new)) }
     ensures later { NoneFell (faults_of F.faults T.faults tree.old terminal.old) (faults_of F.faults T.faults tree.new terminal.new) }
+    ensures steady { OnOk result (F.counts_only_faults → T.counts_only_faults → faults_of F.faults T.faults tree.new terminal.new ≡ faults_of F.faults T.faults tree.old terminal.old) }
     ensures read_cause { IsErrOf result Fault.ReadFault → Rose (faults_of F.faults T.faults tree.old terminal.old).reads (faults_of F.faults T.faults tree.new terminal.new).reads }
     ensures write_cause { IsErrOf result Fault.WriteFault → WriteRose (faults_of F.faults T.faults tree.old terminal.old) (faults_of F.faults T.faults tree.new terminal.new) }
 {
@@ -237,12 +240,13 @@ fn ask<F: Tree, T: Terminal>(
         Err(TreeFault::Failed) => return Err(Fault::ReadFault),
         Err(TreeFault::OutOfMemory) => return Err(Fault::OutOfMemory),
     };
-    mouth.resume(loaded)?;
+    mouth.resume(name, loaded)?;
     Ok(())
 }
 
-/// Makes the next step of the chain: a turn of the mouth, with what it yields. After an `Err` nothing goes on.
-fn turn<F: Tree, T: Terminal>(
+/// Makes steps of the chain: quiet turns of the mouth, and the turn at which they halt, with what it yields. After an `Err`
+/// nothing goes on.
+fn go_on<F: Tree, T: Terminal>(
     alloc: Global,
     budget: u64,
     mouth: &mut Mouth,
@@ -252,7 +256,7 @@ fn turn<F: Tree, T: Terminal>(
     terminal: &mut T,
 ) -> Result<Option<End>, Fault>
     requires open { AllOpen (F.is_open tree.old) journal.old.pen.created }
-    requires room { (state_of mouth.old).machine.spent + 3 < 2 ^ 64 }
+    requires within { (state_of mouth.old).machine.spent ≤ budget }
     requires few { errors.old < 100 }
     ensures going { IfOk result (λ end. F.tells → T.tells → (start : Start) (first : Outside) → IsFor start first → start.job.budget ≡ budget →
         Going start first (state_of mouth.old) errors.old journal.old (outside_of F.files F.asked T.text tree.old terminal.old)
@@ -268,27 +272,110 @@ fn turn<F: Tree, T: Terminal>(
     ensures few { IfOk result (λ end. end ≡ None → errors.new < 100) }
     ensures goes { IfOk result (λ end. end ≡ None → GoesOn (state_of mouth.old) errors.old (state_of mouth.new) errors.new) }
     ensures later { NoneFell (faults_of F.faults T.faults tree.old terminal.old) (faults_of F.faults T.faults tree.new terminal.new) }
+    ensures steady { OnOk result (F.counts_only_faults → T.counts_only_faults → faults_of F.faults T.faults tree.new terminal.new ≡ faults_of F.faults T.faults tree.old terminal.old) }
     ensures read_cause { IsErrOf result Fault.ReadFault → Rose (faults_of F.faults T.faults tree.old terminal.old).reads (faults_of F.faults T.faults tree.new terminal.new).reads }
     ensures write_cause { IsErrOf result Fault.WriteFault → WriteRose (faults_of F.faults T.faults tree.old terminal.old) (faults_of F.faults T.faults tree.new terminal.new) }
 {
-    let did = mouth.turn()?;
-    if mouth.spent() > budget {
-        close(alloc, End::Spent, 0, journal)?;
-        return Ok(Some(End::Spent));
-    }
-    match did {
-        Yield::Quiet => Ok(None),
-        Yield::Act(deed) => {
+    let halt = mouth.advance(budget)?;
+    match halt {
+        Halt::Spent => {
+            close(alloc, End::Spent, 0, journal)?;
+            Ok(Some(End::Spent))
+        }
+        Halt::Act(deed) => {
             let end = act(alloc, deed, errors, journal, tree, terminal)?;
             Ok(end)
         }
-        Yield::Load(name) => {
+        Halt::Load(name) => {
             ask(alloc, name.as_slice(), mouth, journal, tree, terminal)?;
             Ok(None)
         }
-        Yield::Done(end) => {
+        Halt::Done(end) => {
             close(alloc, end, mouth.line(), journal)?;
             Ok(Some(end))
+        }
+    }
+}
+
+/// Makes steps of the chain until one was taken or an error was counted, or to the job's end: in between the mouth's weight
+/// becomes less. After an `Err` nothing goes on.
+fn go_far<F: Tree, T: Terminal>(
+    alloc: Global,
+    budget: u64,
+    mouth: &mut Mouth,
+    errors: &mut u32,
+    journal: &mut Journal,
+    tree: &mut F,
+    terminal: &mut T,
+) -> Result<Option<End>, Fault>
+    requires open { AllOpen (F.is_open tree.old) journal.old.pen.created }
+    requires within { (state_of mouth.old).machine.spent ≤ budget }
+    requires few { errors.old < 100 }
+    ensures going { IfOk result (λ end. F.tells → T.tells → (start : Start) (first : Outside) → IsFor start first → start.job.budget ≡ budget →
+        Going start first (state_of mouth.old) errors.old journal.old (outside_of F.files F.asked T.text tree.old terminal.old)
+        → AfterTurn end start first (state_of mouth.new) errors.new journal.new (outside_of F.files F.asked T.text tree.new terminal.new)) }
+    ensures cut { F.tells → T.tells → (start : Start) (first : Outside) → IsFor start first → start.job.budget ≡ budget →
+        Going start first (state_of mouth.old) errors.old journal.old (outside_of F.files F.asked T.text tree.old terminal.old)
+        → Cut start first (outside_of F.files F.asked T.text tree.new terminal.new) }
+    ensures read_at { IsErrOf result Fault.ReadFault → F.tells → T.tells → (start : Start) (first : Outside) → IsFor start first → start.job.budget ≡ budget →
+        Going start first (state_of mouth.old) errors.old journal.old (outside_of F.files F.asked T.text tree.old terminal.old)
+        → AtAsk start first (outside_of F.files F.asked T.text tree.new terminal.new) }
+    ensures opened { OnOk result (AllOpen (F.is_open tree.new) journal.new.pen.created) }
+    ensures within { IfOk result (λ end. end ≡ None → (state_of mouth.new).machine.spent ≤ budget) }
+    ensures few { IfOk result (λ end. end ≡ None → errors.new < 100) }
+    ensures counts { IfOk result (λ end. end ≡ None → CountsOn (state_of mouth.old) errors.old (state_of mouth.new) errors.new) }
+    ensures later { NoneFell (faults_of F.faults T.faults tree.old terminal.old) (faults_of F.faults T.faults tree.new terminal.new) }
+    ensures steady { OnOk result (F.counts_only_faults → T.counts_only_faults → faults_of F.faults T.faults tree.new terminal.new ≡ faults_of F.faults T.faults tree.old terminal.old) }
+    ensures read_cause { IsErrOf result Fault.ReadFault → Rose (faults_of F.faults T.faults tree.old terminal.old).reads (faults_of F.faults T.faults tree.new terminal.new).reads }
+    ensures write_cause { IsErrOf result Fault.WriteFault → WriteRose (faults_of F.faults T.faults tree.old terminal.old) (faults_of F.faults T.faults tree.new terminal.new) }
+{
+    let before = mouth.spent();
+    let counted = *errors;
+    'free: loop {
+        match go_on(alloc, budget, mouth, errors, journal, tree, terminal) {
+            Err(fault) => return Err(fault),
+            Ok(Some(end)) => return Ok(Some(end)),
+            Ok(None) => {}
+        }
+        if mouth.spent() > before || *errors > counted {
+            return Ok(None);
+        }
+    }
+}
+
+/// Makes steps of the chain to the job's end. After an `Err` nothing goes on.
+fn go_to_end<F: Tree, T: Terminal>(
+    alloc: Global,
+    budget: u64,
+    mouth: &mut Mouth,
+    errors: &mut u32,
+    journal: &mut Journal,
+    tree: &mut F,
+    terminal: &mut T,
+) -> Result<End, Fault>
+    requires open { AllOpen (F.is_open tree.old) journal.old.pen.created }
+    requires within { (state_of mouth.old).machine.spent ≤ budget }
+    requires few { errors.old < 100 }
+    ensures going { IfOk result (λ end. F.tells → T.tells → (start : Start) (first : Outside) → IsFor start first → start.job.budget ≡ budget →
+        Going start first (state_of mouth.old) errors.old journal.old (outside_of F.files F.asked T.text tree.old terminal.old)
+        → Over start first journal.new end (outside_of F.files F.asked T.text tree.new terminal.new)) }
+    ensures cut { F.tells → T.tells → (start : Start) (first : Outside) → IsFor start first → start.job.budget ≡ budget →
+        Going start first (state_of mouth.old) errors.old journal.old (outside_of F.files F.asked T.text tree.old terminal.old)
+        → Cut start first (outside_of F.files F.asked T.text tree.new terminal.new) }
+    ensures read_at { IsErrOf result Fault.ReadFault → F.tells → T.tells → (start : Start) (first : Outside) → IsFor start first → start.job.budget ≡ budget →
+        Going start first (state_of mouth.old) errors.old journal.old (outside_of F.files F.asked T.text tree.old terminal.old)
+        → AtAsk start first (outside_of F.files F.asked T.text tree.new terminal.new) }
+    ensures opened { OnOk result (AllOpen (F.is_open tree.new) journal.new.pen.created) }
+    ensures later { NoneFell (faults_of F.faults T.faults tree.old terminal.old) (faults_of F.faults T.faults tree.new terminal.new) }
+    ensures steady { OnOk result (F.counts_only_faults → T.counts_only_faults → faults_of F.faults T.faults tree.new terminal.new ≡ faults_of F.faults T.faults tree.old terminal.old) }
+    ensures read_cause { IsErrOf result Fault.ReadFault → Rose (faults_of F.faults T.faults tree.old terminal.old).reads (faults_of F.faults T.faults tree.new terminal.new).reads }
+    ensures write_cause { IsErrOf result Fault.WriteFault → WriteRose (faults_of F.faults T.faults tree.old terminal.old) (faults_of F.faults T.faults tree.new terminal.new) }
+{
+    'counts: loop {
+        match go_far(alloc, budget, mouth, errors, journal, tree, terminal) {
+            Err(fault) => return Err(fault),
+            Ok(Some(end)) => return Ok(end),
+            Ok(None) => {}
         }
     }
 }
@@ -299,6 +386,35 @@ pub struct Ending {
     pub end: End,
     /// Whether an error was reported.
     pub has_erred: bool,
+}
+
+/// Writes what waits where a job has come to its end.
+fn finish<F: Tree, T: Terminal>(
+    end: End,
+    journal: &mut Journal,
+    tree: &mut F,
+    terminal: &mut T,
+) -> Result<Ending, Fault>
+    requires { AllOpen (F.is_open tree.old) journal.old.pen.created }
+    ensures whole { IfOk result (λ ending. F.tells → T.tells → (start : Start) (first : Outside) →
+        Over start first journal.old end (outside_of F.files F.asked T.text tree.old terminal.old)
+        → Settled start ending.end ending.has_erred first (outside_of F.files F.asked T.text tree.new terminal.new)) }
+    ensures cut { F.tells → T.tells → (start : Start) (first : Outside) →
+        Over start first journal.old end (outside_of F.files F.asked T.text tree.old terminal.old)
+        → Cut start first (outside_of F.files F.asked T.text tree.new terminal.new) }
+    ensures read { IsErrOf result Fault.ReadFault → ⊥ }
+    ensures later { NoneFell (faults_of F.faults T.faults tree.old terminal.old) (faults_of F.faults T.faults tree.new terminal.new) }
+    ensures steady { OnOk result (F.counts_only_faults → T.counts_only_faults → faults_of F.faults T.faults tree.new terminal.new ≡ faults_of F.faults T.faults tree.old terminal.old) }
+    ensures write_cause { IsErrOf result Fault.WriteFault → WriteRose (faults_of F.faults T.faults tree.old terminal.old) (faults_of F.faults T.faults tree.new terminal.new) }
+{
+    match journal.flush(tree, terminal) {
+        Err(FlushFault::WriteFault) => Err(Fault::WriteFault),
+        Err(FlushFault::OutOfMemory) => Err(Fault::OutOfMemory),
+        Ok(()) => Ok(Ending {
+            end,
+            has_erred: journal.has_erred(),
+        }),
+    }
 }
 
 /// Runs a job to its end: from the creation of its log to the last byte of its transcript.
@@ -315,6 +431,7 @@ pub fn run<F: Tree, T: Terminal>(
     ensures read_at { IsErrOf result Fault.ReadFault → F.tells → T.tells → (start : Start) → IsFor start (outside_of F.files F.asked T.text tree.old terminal.old) → start.job ≡ job →
         AtAsk start (outside_of F.files F.asked T.text tree.old terminal.old) (outside_of F.files F.asked T.text tree.new terminal.new) }
     ensures later { NoneFell (faults_of F.faults T.faults tree.old terminal.old) (faults_of F.faults T.faults tree.new terminal.new) }
+    ensures steady { OnOk result (F.counts_only_faults → T.counts_only_faults → faults_of F.faults T.faults tree.new terminal.new ≡ faults_of F.faults T.faults tree.old terminal.old) }
     ensures read_cause { IsErrOf result Fault.ReadFault → Rose (faults_of F.faults T.faults tree.old terminal.old).reads (faults_of F.faults T.faults tree.new terminal.new).reads }
     ensures write_cause { IsErrOf result Fault.WriteFault → WriteRose (faults_of F.faults T.faults tree.old terminal.old) (faults_of F.faults T.faults tree.new terminal.new) }
 {
@@ -323,35 +440,18 @@ pub fn run<F: Tree, T: Terminal>(
     journal.push(Deed::Create(name_log(alloc, job.name())?))?;
     let mut mouth = Mouth::new(alloc, job)?;
     let mut errors = 0;
-    // A turn may take no step and report no error, but then it makes the mouth's weight less: the innermost loop ends by that,
-    // the next since errors are few, and the outermost since the budget is spent.
-    'steps: loop {
-        let before = mouth.spent();
-        'errors: loop {
-            let counted = errors;
-            'free: loop {
-                if let Some(end) = turn(
-                    alloc,
-                    budget,
-                    &mut mouth,
-                    &mut errors,
-                    &mut journal,
-                    tree,
-                    terminal,
-                )? {
-                    journal.flush(tree, terminal)?;
-                    return Ok(Ending {
-                        end,
-                        has_erred: journal.has_erred(),
-                    });
-                }
-                if mouth.spent() > before {
-                    break 'errors;
-                }
-                if errors > counted {
-                    break;
-                }
-            }
-        }
-    }
+    let end = match go_to_end(
+        alloc,
+        budget,
+        &mut mouth,
+        &mut errors,
+        &mut journal,
+        tree,
+        terminal,
+    ) {
+        Ok(end) => end,
+        Err(fault) => return Err(fault),
+    };
+    let ending = finish(end, &mut journal, tree, terminal)?;
+    Ok(ending)
 }

@@ -10,11 +10,15 @@ mod fault;
 mod law;
 mod machine;
 mod mouth;
+mod skim;
 #[cfg(test)]
 mod tests;
 mod typeset;
 mod words;
 mod yields;
 
-pub use law::each_job_has_one_meaning;
+pub use law::{
+    a_job_keeps_to_its_files, each_job_has_one_meaning, each_run_halts_in_one_way,
+    more_budget_changes_nothing, the_column_is_that_of_the_log, the_log_is_what_was_said,
+};
 pub use typeset::typeset_alone;

@@ -1,182 +1,198 @@
-//! One turn of the machine: what stands on top of the stack, or the main loop, gets a token.
-ghost use Rattle.std.specs.Prelude.{◌≡◌, ◌≢◌, ◌≤◌, ◌+◌, ◌<◌, ◌^◌, [], OnOk, IfOk};
-ghost use Rattle.etx_state.specs.States.{mouth_of};
-ghost use Rattle.etx_expand.specs.Moves.{pushed};
-ghost use Rattle.etx_expand.specs.Printing.{said_text};
-ghost use Rattle.etx_expand.specs.Turn.{turn_of};
-ghost use Rattle.etx_assign.specs.Turn.{planned_turn};
-ghost use Rattle.etx_job.specs.Commands.{command_row, ignore_row};
-ghost use Rattle.etx_job.specs.Machine.{waiting, taker_by, taker_at, taker_of, without_top, one_taken, list_taken, taken, by_turned, fitting, machine_turn};
+//! One turn of the machine: what stands on top of the stack, or main control, gets a token or a value, by owner.
+ghost use Rattle.std.specs.Prelude.{◌≡◌, OnOk, IfOk};
+ghost use Rattle.etx_state.specs.Mouths.{mouth_of};
+ghost use Rattle.etx_job.specs.Machine.{command_turn, main_idle, main_with, main_turn, behind_spaces, control_token, control_text_turn, scan_token, scan_with, scan_turn, value_turn, kept_turn, entry_turn, stack_turn, fitting, machine_turn};
 
-use crate::commands::{behind_spaces, carry_out};
-use etx_assign::go;
-use etx_expand::{Move, Push, Turned, Value, make, said_text};
+use crate::commands::{command_row, text_taken};
+use etx_assign::{future, number, scan};
+use etx_expand::{
+    Fetched, Idle, Move, Turned, begin, do_alone, error_deed, expand_token, fetch_command,
+    fetch_for, follow, go_idle, has_category, make, quiet, take_expansion, take_number, take_text,
+    turn_due, turn_expand_after, turn_say,
+};
 use etx_matter::{End, Limit, Token, Tokens};
-use etx_state::{Entry, Meaning, Scan, Scans, State};
+use etx_state::{
+    ControlScan, ControlText, Entry, Keeper, Meaning, NumberFinish, Scan, State, TextFinish, Value,
+};
 use std::alloc::AllocError;
 
 /// The most entries of the stack, and the most levels of the input.
-const MOST: usize = 10_000;
+pub(crate) const MOST: usize = 10_000;
 
-/// Who takes a value that is whole.
-#[derive(Clone, Copy)]
-pub enum Taker {
-    /// The main loop takes a token for a command.
-    MainLoop,
-    /// `\ignorespaces` takes a token, and the first that is no space for a command.
-    IgnoreSpaces,
-    /// `\message` takes a text.
-    Message,
-    /// An assignment takes a token.
-    Assignment,
+/// A token is a command.
+fn turn_command(s: &mut State, token: Token, meaning: Meaning) -> Result<Turned, AllocError>
+    ensures now { OnOk result (mouth_of s.new ≡ (command_turn token meaning (mouth_of s.old)).now) }
+    ensures turned { IfOk result (λ t. t ≡ (command_turn token meaning (mouth_of s.old)).turned) }
+{
+    let start = command_row(&mut s.rest, token, meaning)?;
+    begin(s, token, start)
 }
 
-/// Where nothing stands on the stack, the main loop waits for a command.
-#[tactic(auto, unfolding(crate::specs::Machine::waiting), using(crate::proofs::Waiters::full_waits))]
-fn wait(s: &mut State) -> Result<(), AllocError>
-    ensures now { OnOk result (mouth_of s.new ≡ waiting (mouth_of s.old)) }
-    ensures some { OnOk result (s.new.scans ≢ []) }
-    ensures free { OnOk result (s.new.spent ≡ s.old.spent) }
+fn main_idle(s: &mut State, idle: Idle) -> Result<Turned, AllocError>
+    ensures now { OnOk result (mouth_of s.new ≡ (main_idle idle (mouth_of s.old)).now) }
+    ensures turned { IfOk result (λ t. t ≡ (main_idle idle (mouth_of s.old)).turned) }
 {
-    if s.scans.is_empty() {
-        s.scans.push(Entry::Scan(Scan::Command))?;
-    }
-    Ok(())
-}
-
-fn scan_taker(scan: &Scan) -> Taker
-    ensures { result ≡ taker_by scan.now }
-{
-    match scan {
-        Scan::IgnoreSpaces => Taker::IgnoreSpaces,
-        Scan::Message => Taker::Message,
-        _ => Taker::Assignment,
+    match idle {
+        Idle::Expands { token, what } => expand_token(s, what, token),
+        Idle::Over(did) => do_alone(s, did),
+        Idle::Cut(text) => error_deed(s, text),
     }
 }
 
-fn entry_taker(entry: &Entry) -> Taker
-    ensures { result ≡ taker_at entry.now }
+/// Main control gets a token, where nothing stands on the stack.
+#[tactic(auto, unfolding(crate::specs::Machine::main_turn))]
+fn turn_main(s: &mut State) -> Result<Turned, AllocError>
+    ensures now { OnOk result (mouth_of s.new ≡ (main_turn (mouth_of s.old)).now) }
+    ensures turned { IfOk result (λ t. t ≡ (main_turn (mouth_of s.old)).turned) }
 {
-    match entry {
-        Entry::Scan(scan) => scan_taker(scan),
-        Entry::Kept { .. } => Taker::Assignment,
-        Entry::PutBack(_) => Taker::Assignment,
-        Entry::Say { .. } => Taker::Assignment,
+    match fetch_command(s)? {
+        Fetched::Token { token, meaning } => turn_command(s, token, meaning),
+        Fetched::Idle(why) => main_idle(s, why),
     }
 }
 
-/// Who takes a value, by what stands on top of the stack.
-#[tactic(auto, unfolding(crate::specs::Machine::taker_of))]
-fn find_taker(scans: &Scans) -> Taker
-    ensures { result ≡ taker_of scans.now }
-{
-    match scans.at(0) {
-        None => Taker::MainLoop,
-        Some(entry) => entry_taker(entry),
-    }
-}
-
-fn drop_top(s: &mut State)
-    ensures { mouth_of s.new ≡ without_top (mouth_of s.old) }
-{
-    match s.scans.pop() {
-        None => {}
-        Some(_) => {}
-    }
-}
-
-/// The main loop takes a token for a command.
-fn take_command(s: &mut State, token: Token, meaning: &Meaning) -> Result<Turned, AllocError>
-    requires { s.old.spent + 1 < 2 ^ 64 }
-    ensures now { OnOk result (mouth_of s.new ≡ (planned_turn token (command_row token meaning.now (mouth_of s.old).values) (mouth_of s.old)).now) }
-    ensures turned { IfOk result (λ t. t ≡ (planned_turn token (command_row token meaning.now (mouth_of s.old).values) (mouth_of s.old)).turned) }
-{
-    let plan = carry_out(s, token, meaning)?;
-    make(s, token, plan)
-}
-
-/// `\ignorespaces`, whose entry is gone, takes a token.
-fn take_behind_spaces(s: &mut State, token: Token, meaning: &Meaning) -> Result<Turned, AllocError>
-    requires { s.old.spent + 1 < 2 ^ 64 }
-    ensures now { OnOk result (mouth_of s.new ≡ (planned_turn token (ignore_row token meaning.now (mouth_of s.old).values) (mouth_of s.old)).now) }
-    ensures turned { IfOk result (λ t. t ≡ (planned_turn token (ignore_row token meaning.now (mouth_of s.old).values) (mouth_of s.old)).turned) }
-{
-    let plan = behind_spaces(s, token, meaning)?;
-    make(s, token, plan)
-}
-
-#[tactic(auto, unfolding(crate::specs::Machine::one_taken))]
-fn take_one(
+/// `\ignorespaces`: the first token that is no space is a command.
+fn behind_spaces(
     s: &mut State,
-    taker: Taker,
+    left: u8,
     token: Token,
     meaning: Meaning,
 ) -> Result<Turned, AllocError>
-    requires { s.old.spent + 1 < 2 ^ 64 }
-    ensures now { OnOk result (mouth_of s.new ≡ (one_taken taker token meaning (mouth_of s.old)).now) }
-    ensures turned { IfOk result (λ t. t ≡ (one_taken taker token meaning (mouth_of s.old)).turned) }
+    ensures now { OnOk result (mouth_of s.new ≡ (behind_spaces left token meaning (mouth_of s.old)).now) }
+    ensures turned { IfOk result (λ t. t ≡ (behind_spaces left token meaning (mouth_of s.old)).turned) }
 {
-    match taker {
-        Taker::MainLoop => take_command(s, token, &meaning),
-        Taker::IgnoreSpaces => {
-            drop_top(s);
-            take_behind_spaces(s, token, &meaning)
-        }
-        Taker::Message => go(s, Value::One { token, meaning }),
-        Taker::Assignment => go(s, Value::One { token, meaning }),
+    if has_category(10, &meaning) {
+        let again = Scan::Control(ControlScan::IgnoreSpaces);
+        make(s, left, token, quiet(Move::Stay(again)))
+    } else {
+        turn_command(s, token, meaning)
     }
 }
 
-/// `\message` has its text, which is said next.
-#[tactic(auto, unfolding(etx_expand::specs::Moves::made))]
-fn say(s: &mut State, tokens: Tokens) -> Result<Turned, AllocError>
-    requires { s.old.spent + 1 < 2 ^ 64 }
-    ensures now { OnOk result (mouth_of s.new ≡ pushed (Push.Say (said_text (mouth_of s.old) tokens)) (without_top (mouth_of s.old))) }
-    ensures turned { IfOk result (λ t. t ≡ Turned.Again) }
+fn take_control(
+    s: &mut State,
+    left: u8,
+    scan: ControlScan,
+    token: Token,
+    meaning: Meaning,
+) -> Result<Turned, AllocError>
+    ensures now { OnOk result (mouth_of s.new ≡ (control_token left scan token meaning (mouth_of s.old)).now) }
+    ensures turned { IfOk result (λ t. t ≡ (control_token left scan token meaning (mouth_of s.old)).turned) }
 {
-    let text = said_text(s, tokens.as_slice())?;
-    drop_top(s);
-    make(s, Token::Param(0), Move::Used(Push::Say(text)))
-}
-
-#[tactic(auto, unfolding(crate::specs::Machine::list_taken))]
-fn take_list(s: &mut State, taker: Taker, tokens: Tokens) -> Result<Turned, AllocError>
-    requires { s.old.spent + 1 < 2 ^ 64 }
-    ensures now { OnOk result (mouth_of s.new ≡ (list_taken taker tokens (mouth_of s.old)).now) }
-    ensures turned { IfOk result (λ t. t ≡ (list_taken taker tokens (mouth_of s.old)).turned) }
-{
-    match taker {
-        Taker::MainLoop => go(s, Value::List(tokens)),
-        Taker::IgnoreSpaces => go(s, Value::List(tokens)),
-        Taker::Message => say(s, tokens),
-        Taker::Assignment => go(s, Value::List(tokens)),
+    match scan {
+        ControlScan::IgnoreSpaces => behind_spaces(s, left, token, meaning),
     }
 }
 
-/// A value that is whole is taken.
-#[tactic(auto, unfolding(crate::specs::Machine::taken))]
-fn take(s: &mut State, value: Value) -> Result<Turned, AllocError>
-    requires { s.old.spent + 1 < 2 ^ 64 }
-    ensures now { OnOk result (mouth_of s.new ≡ (taken value (mouth_of s.old)).now) }
-    ensures turned { IfOk result (λ t. t ≡ (taken value (mouth_of s.old)).turned) }
+/// Main control takes a text.
+fn turn_control_text(
+    s: &mut State,
+    left: u8,
+    taker: ControlText,
+    text: &Tokens,
+) -> Result<Turned, AllocError>
+    ensures now { OnOk result (mouth_of s.new ≡ (control_text_turn left taker text.now (mouth_of s.old)).now) }
+    ensures turned { IfOk result (λ t. t ≡ (control_text_turn left taker text.now (mouth_of s.old)).turned) }
 {
-    let taker = find_taker(&s.scans);
+    let ended = text_taken(&s.rest, taker, text)?;
+    follow(s, left, ended)
+}
+
+/// A scan gets a token that isn't expanded: a line for each owner.
+fn take_token(
+    s: &mut State,
+    left: u8,
+    waits: Scan,
+    token: Token,
+    meaning: Meaning,
+) -> Result<Turned, AllocError>
+    ensures now { OnOk result (mouth_of s.new ≡ (scan_token left waits token meaning (mouth_of s.old)).now) }
+    ensures turned { IfOk result (λ t. t ≡ (scan_token left waits token meaning (mouth_of s.old)).turned) }
+{
+    match waits {
+        Scan::Expansion(waits) => take_expansion(s, left, waits, token, &meaning),
+        Scan::Number {
+            scan: waits,
+            finish,
+        } => take_number(s, left, waits, finish, token, &meaning),
+        Scan::Text { text, finish } => take_text(s, left, text, finish, token, &meaning),
+        Scan::Assign(waits) => scan(s, left, waits, token, meaning),
+        Scan::Control(waits) => take_control(s, left, waits, token, meaning),
+    }
+}
+
+fn take_fetched(
+    s: &mut State,
+    left: u8,
+    waits: Scan,
+    fetched: Fetched,
+) -> Result<Turned, AllocError>
+    ensures now { OnOk result (mouth_of s.new ≡ (scan_with left waits fetched (mouth_of s.old)).now) }
+    ensures turned { IfOk result (λ t. t ≡ (scan_with left waits fetched (mouth_of s.old)).turned) }
+{
+    match fetched {
+        Fetched::Token { token, meaning } => take_token(s, left, waits, token, meaning),
+        Fetched::Idle(why) => go_idle(s, left, waits, why),
+    }
+}
+
+/// A scan waits for a token.
+#[tactic(auto, unfolding(crate::specs::Machine::scan_turn))]
+fn turn_scan(s: &mut State, left: u8, waits: Scan) -> Result<Turned, AllocError>
+    ensures now { OnOk result (mouth_of s.new ≡ (scan_turn left waits (mouth_of s.old)).now) }
+    ensures turned { IfOk result (λ t. t ≡ (scan_turn left waits (mouth_of s.old)).turned) }
+{
+    let fetched = fetch_for(s, &waits)?;
+    take_fetched(s, left, waits, fetched)
+}
+
+/// A line for each owner of values.
+fn turn_value(s: &mut State, left: u8, value: Value) -> Result<Turned, AllocError>
+    ensures now { OnOk result (mouth_of s.new ≡ (value_turn left value (mouth_of s.old)).now) }
+    ensures turned { IfOk result (λ t. t ≡ (value_turn left value (mouth_of s.old)).turned) }
+{
     match value {
-        Value::One { token, meaning } => take_one(s, taker, token, meaning),
-        Value::List(tokens) => take_list(s, taker, tokens),
+        Value::Number { number: n, finish } => match finish {
+            NumberFinish::Assign(taker) => number(s, left, taker, n),
+        },
+        Value::Text { text, finish } => match finish {
+            TextFinish::Control(taker) => turn_control_text(s, left, taker, text.get()),
+        },
     }
 }
 
-fn take_turned(s: &mut State, turned: Turned) -> Result<Turned, AllocError>
-    requires { s.old.spent + 1 < 2 ^ 64 }
-    ensures now { OnOk result (mouth_of s.new ≡ (by_turned turned (mouth_of s.old)).now) }
-    ensures turned { IfOk result (λ t. t ≡ (by_turned turned (mouth_of s.old)).turned) }
+fn turn_kept(s: &mut State, kept: Token, by: Keeper) -> Result<Turned, AllocError>
+    ensures now { OnOk result (mouth_of s.new ≡ (kept_turn kept by (mouth_of s.old)).now) }
+    ensures turned { IfOk result (λ t. t ≡ (kept_turn kept by (mouth_of s.old)).turned) }
 {
-    match turned {
-        Turned::Again => Ok(Turned::Again),
-        Turned::Ready(value) => take(s, value),
-        Turned::Deed(deed) => Ok(Turned::Deed(deed)),
-        Turned::End(end) => Ok(Turned::End(end)),
+    match by {
+        Keeper::ExpandAfter => turn_expand_after(s, kept),
+        Keeper::Future { is_global, name } => future(s, is_global, name, kept),
+    }
+}
+
+fn turn_entry(s: &mut State, entry: Entry) -> Result<Turned, AllocError>
+    ensures now { OnOk result (mouth_of s.new ≡ (entry_turn entry (mouth_of s.old)).now) }
+    ensures turned { IfOk result (λ t. t ≡ (entry_turn entry (mouth_of s.old)).turned) }
+{
+    match entry {
+        Entry::Scan { left, scan: waits } => turn_scan(s, left, waits),
+        Entry::Given { left, value } => turn_value(s, left, value),
+        Entry::Kept { token, by } => turn_kept(s, token, by),
+        Entry::Due(token) => turn_due(s, token),
+        Entry::Say(text) => turn_say(s, text),
+    }
+}
+
+/// What stands on top is taken off the stack, and gets what it waits for.
+#[tactic(auto, unfolding(crate::specs::Machine::stack_turn))]
+fn turn_stack(s: &mut State) -> Result<Turned, AllocError>
+    ensures now { OnOk result (mouth_of s.new ≡ (stack_turn (mouth_of s.old)).now) }
+    ensures turned { IfOk result (λ t. t ≡ (stack_turn (mouth_of s.old)).turned) }
+{
+    match s.entries.pop() {
+        None => turn_main(s),
+        Some(entry) => turn_entry(s, entry),
     }
 }
 
@@ -184,7 +200,7 @@ fn take_turned(s: &mut State, turned: Turned) -> Result<Turned, AllocError>
 fn fit(s: &State, turned: Turned) -> Turned
     ensures { result ≡ fitting (mouth_of s.now) turned }
 {
-    if s.scans.len() > MOST {
+    if s.entries.len() > MOST {
         Turned::End(End::Capacity(Limit::Scans))
     } else if s.input.depth() > MOST {
         Turned::End(End::Capacity(Limit::InputLevels))
@@ -193,28 +209,14 @@ fn fit(s: &State, turned: Turned) -> Turned
     }
 }
 
-/// Expansion makes its turn; a turn takes two steps at most.
-fn expand(s: &mut State) -> Result<Turned, AllocError>
-    requires { s.old.spent + 2 < 2 ^ 64 }
-    ensures now { OnOk result (mouth_of s.new ≡ (turn_of (waiting (mouth_of s.old))).now) }
-    ensures turned { IfOk result (λ t. t ≡ (turn_of (waiting (mouth_of s.old))).turned) }
-    ensures few { OnOk result (s.new.spent ≤ s.old.spent + 2) }
-{
-    wait(s)?;
-    let turned = etx_expand::turn(s)?;
-    Ok(turned)
-}
-
-/// Makes one turn. What the values were before it is forgotten, since nothing goes back to it. After an `Err` the state is
+/// Makes one turn. What the state was before it is forgotten, since nothing goes back to it. After an `Err` the state is
 /// only dropped.
 #[tactic(auto, unfolding(crate::specs::Machine::machine_turn))]
 pub fn turn(s: &mut State) -> Result<Turned, AllocError>
-    requires { s.old.spent + 3 < 2 ^ 64 }
     ensures now { OnOk result (mouth_of s.new ≡ (machine_turn (mouth_of s.old)).now) }
     ensures turned { IfOk result (λ t. t ≡ (machine_turn (mouth_of s.old)).turned) }
 {
-    let turned = expand(s)?;
-    let turned = take_turned(s, turned)?;
+    let turned = turn_stack(s)?;
     s.forget();
     Ok(fit(s, turned))
 }

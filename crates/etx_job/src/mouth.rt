@@ -1,15 +1,19 @@
-//! The mouth of a job: it asks for the main file, and then its machine reads it, a token a turn.
-ghost use Rattle.std.specs.Prelude.{◌≡◌, ◌<◌, ◌+◌, ◌^◌, IfOk, OnOk};
+//! The mouth of a job: it asks for the main file, and then its machine reads it, a token a turn, as many quiet turns in one call
+//! as it likes.
+ghost use Rattle.std.specs.Prelude.{◌≡◌, ◌≤◌, Option, Some, None, IfOk, OnOk};
 ghost use Rattle.etx_input.specs.Files.{unread};
 ghost use Rattle.etx_input.specs.Levels.{with_file};
-ghost use Rattle.etx_state.specs.States.{mouth_of, with_input};
+ghost use Rattle.etx_state.specs.Mouths.{mouth_of, with_input};
 ghost use Rattle.etx_job.specs.Machine.{machine_turn};
 ghost use Rattle.etx_job.specs.Mouths.{mouth_at, state_of};
-ghost use Rattle.etx_job.specs.Turn.{turn_of, first_mouth, line_number_of, yield_of, machine_turned, source_turn, cant_find, answered, source_resumed, resumed};
-ghost use Rattle.etx_job.specs.Measure.{Goes, IsNoMore};
+ghost use Rattle.etx_job.specs.Turn.{turned, turn_of, first_mouth, line_number_of, yield_of, machine_turned, source_turn, cant_find, answered, resumed};
+ghost use Rattle.etx_job.specs.Measure.{Falls, Goes, IsAnswered};
+ghost use Rattle.etx_job.specs.Runs.{Runs, Advances, RunGoes};
+ghost use Rattle.etx_job.specs.declared.yields.Halt.{Halt as Why};
 
 use crate::machine;
-use crate::yields::Yield;
+use crate::skim::skim;
+use crate::yields::{Halt, Yield};
 use etx_expand::Turned;
 use etx_input::FileInput;
 use etx_lists::Bytes;
@@ -17,14 +21,13 @@ use etx_matter::{Audience, Deed, End, FatalError, Job};
 use etx_outside::Loaded;
 use etx_state::State;
 use std::alloc::{AllocError, Global};
+use std::marker::Model;
 
 /// What the mouth reads from.
 #[derive(Drop)]
 pub enum Source {
     /// The main file of this name is still to be asked for.
     Unasked(Bytes),
-    /// The main file of this name was asked for.
-    Awaited(Bytes),
     /// There is no file of this name.
     Absent(Bytes),
     /// The main file can't be read.
@@ -38,6 +41,14 @@ pub enum Source {
 pub struct Mouth {
     source: Source,
     state: State,
+}
+
+impl Model for Mouth {
+    ghost use Rattle.etx_job.specs.Mouths.{Held, hold};
+
+    ghost Value = { Held };
+
+    ghost view = { λ it. hold it.source it.state };
 }
 
 /// The text of the error that there is no file of this name.
@@ -55,8 +66,7 @@ fn yield_of(turned: Turned) -> Yield
 {
     match turned {
         Turned::Again => Yield::Quiet,
-        Turned::Ready(_) => Yield::Quiet,
-        Turned::Deed(deed) => Yield::Act(deed),
+        Turned::Deed(deed) => Yield::Act(deed.into_inner()),
         Turned::End(end) => Yield::Done(end),
     }
 }
@@ -75,7 +85,6 @@ fn miss(alloc: Global, name: &[u8]) -> Result<Yield, AllocError>
 
 /// The machine makes a turn.
 fn read(state: &mut State) -> Result<Yield, AllocError>
-    requires { state.old.spent + 3 < 2 ^ 64 }
     ensures now { OnOk result (mouth_of state.new ≡ (machine_turn (mouth_of state.old)).now) }
     ensures did { IfOk result (λ did. did ≡ yield_of (machine_turn (mouth_of state.old)).turned) }
 {
@@ -84,18 +93,15 @@ fn read(state: &mut State) -> Result<Yield, AllocError>
 }
 
 /// A turn, by what is read from. After an `Err` both are only dropped.
-fn make_turn(source: &mut Source, state: &mut State) -> Result<Yield, AllocError>
-    requires { state.old.spent + 3 < 2 ^ 64 }
+fn turn_by(source: &mut Source, state: &mut State) -> Result<Yield, AllocError>
     ensures now { OnOk result (mouth_at source.new (mouth_of state.new) ≡ (source_turn source.old (mouth_of state.old)).now) }
     ensures did { IfOk result (λ did. did ≡ (source_turn source.old (mouth_of state.old)).did) }
 {
     match std::mem::replace(source, Source::Refused) {
         Source::Unasked(name) => {
-            let asked = name.copy()?;
-            *source = Source::Awaited(name);
-            Ok(Yield::Load(asked))
+            *source = Source::Reading;
+            Ok(Yield::Load(name))
         }
-        Source::Awaited(_) => Ok(Yield::Done(End::Fatal(FatalError::FileError))),
         Source::Absent(name) => miss(state.alloc(), name.as_slice()),
         Source::Refused => Ok(Yield::Done(End::Fatal(FatalError::FileError))),
         Source::Reading => {
@@ -114,12 +120,12 @@ fn push_text(state: &mut State, text: Bytes) -> Result<(), AllocError>
     Ok(())
 }
 
-/// The answer of the load of the main file, and what is read from then. After an `Err` the state is only dropped.
-fn answer(state: &mut State, name: Bytes, loaded: Loaded) -> Result<Source, AllocError>
-    ensures { IfOk result (λ source. mouth_at source (mouth_of state.new) ≡ answered name loaded (mouth_of state.old)) }
+/// The answer of the load of this name, and what is read from then. After an `Err` the state is only dropped.
+fn answer(state: &mut State, name: &[u8], loaded: Loaded) -> Result<Source, AllocError>
+    ensures { IfOk result (λ source. mouth_at source (mouth_of state.new) ≡ answered name.now loaded (mouth_of state.old)) }
 {
     match loaded {
-        Loaded::Absent => Ok(Source::Absent(name)),
+        Loaded::Absent => Ok(Source::Absent(Bytes::from_slice(state.alloc(), name)?)),
         Loaded::TooLong => Ok(Source::Refused),
         Loaded::Bytes(text) => {
             push_text(state, text)?;
@@ -128,34 +134,29 @@ fn answer(state: &mut State, name: Bytes, loaded: Loaded) -> Result<Source, Allo
     }
 }
 
-/// Only a mouth that awaits an answer is given one.
-fn take_answer(source: Source, state: &mut State, loaded: Loaded) -> Result<Source, AllocError>
-    ensures { IfOk result (λ s. mouth_at s (mouth_of state.new) ≡ source_resumed source loaded (mouth_of state.old)) }
-{
-    match source {
-        Source::Unasked(_) => Ok(Source::Refused),
-        Source::Awaited(name) => answer(state, name, loaded),
-        Source::Absent(_) => Ok(Source::Refused),
-        Source::Refused => Ok(Source::Refused),
-        Source::Reading => Ok(Source::Refused),
-    }
-}
-
 impl Mouth {
+    /// The mouth that is to read the file of this name.
+    #[tactic(auto, unfolding(crate::specs::Mouths::state_of))]
+    fn before_file(name: Bytes, state: State) -> Mouth
+        ensures { state_of result ≡ mouth_at (Source.Unasked name) (mouth_of state) }
+    {
+        Mouth {
+            source: Source::Unasked(name),
+            state,
+        }
+    }
+
     /// The mouth of INITEX, which is to read the main file of this job.
     #[tactic(auto, unfolding(crate::specs::Turn::first_mouth))]
     pub fn new(alloc: Global, job: Job) -> Result<Mouth, AllocError>
         ensures { IfOk result (λ mouth. state_of mouth ≡ first_mouth job.name) }
     {
         let state = State::open(alloc, &job)?;
-        Ok(Mouth {
-            source: Source::Unasked(job.into_name()),
-            state,
-        })
+        Ok(Mouth::before_file(job.into_name(), state))
     }
 
     /// The number of the line that was read last, or 0.
-    #[tactic(auto, unfolding(crate::specs::Turn::line_number_of))]
+    #[tactic(auto, unfolding(crate::specs::Turn::line_number_of, crate::specs::Mouths::state_of))]
     pub fn line(&self) -> u32
         ensures { result ≡ line_number_of (state_of self.now) }
     {
@@ -163,48 +164,101 @@ impl Mouth {
     }
 
     /// How many steps were taken.
+    #[tactic(auto, unfolding(crate::specs::Mouths::state_of))]
     pub fn spent(&self) -> u64
         ensures { result ≡ (state_of self.now).machine.spent }
     {
         self.state.spent
     }
 
-    /// Makes one turn. It ends the job, reports an error, takes a step, or makes the weight of what waits smaller. After an `Err`
-    /// the mouth is only dropped.
-    pub fn turn(&mut self) -> Result<Yield, AllocError>
-        requires { (state_of self.old).machine.spent + 3 < 2 ^ 64 }
+    #[tactic(auto, unfolding(crate::specs::Turn::turn_of, crate::specs::Mouths::state_of))]
+    fn make_turn(&mut self) -> Result<Yield, AllocError>
         ensures now { OnOk result (state_of self.new ≡ (turn_of (state_of self.old)).now) }
         ensures did { IfOk result (λ did. did ≡ (turn_of (state_of self.old)).did) }
-        ensures goes { IfOk result (λ did. Goes (state_of self.old) (record { now = state_of self.new; did = did })) }
     {
-        let did = self.go_on()?;
+        turn_by(&mut self.source, &mut self.state)
+    }
+
+    /// Makes one turn. It ends the job, reports an error, takes a step, or makes the weight of what waits smaller.
+    fn turn(&mut self) -> Result<Yield, AllocError>
+        ensures now { OnOk result (state_of self.new ≡ (turn_of (state_of self.old)).now) }
+        ensures did { IfOk result (λ did. did ≡ (turn_of (state_of self.old)).did) }
+        ensures goes { IfOk result (λ did. Goes (state_of self.old) (turned (state_of self.new) did)) }
+    {
+        let did = self.make_turn()?;
         Ok(did)
     }
 
-    #[tactic(auto, unfolding(crate::specs::Turn::turn_of))]
-    fn go_on(&mut self) -> Result<Yield, AllocError>
-        requires { (state_of self.old).machine.spent + 3 < 2 ^ 64 }
-        ensures now { OnOk result (state_of self.new ≡ (turn_of (state_of self.old)).now) }
-        ensures did { IfOk result (λ did. did ≡ (turn_of (state_of self.old)).did) }
+    /// Makes the quiet turns of the kinds that are made many at once.
+    #[tactic(auto, unfolding(crate::specs::Mouths::state_of))]
+    fn skim(&mut self, budget: u64) -> Result<(), AllocError>
+        requires { (state_of self.old).machine.spent ≤ budget }
+        ensures runs { OnOk result (Runs budget (state_of self.old) (state_of self.new)) }
+        ensures within { OnOk result ((state_of self.new).machine.spent ≤ budget) }
     {
-        make_turn(&mut self.source, &mut self.state)
+        match self.source {
+            Source::Unasked(_) => Ok(()),
+            Source::Absent(_) => Ok(()),
+            Source::Refused => Ok(()),
+            Source::Reading => skim(&mut self.state, budget),
+        }
     }
 
-    /// Takes the answer of a load. After an `Err` the mouth is only dropped.
-    pub fn resume(&mut self, loaded: Loaded) -> Result<(), AllocError>
-        ensures now { OnOk result (state_of self.new ≡ resumed (state_of self.old) loaded) }
-        ensures no_more { OnOk result (IsNoMore (state_of self.old) (state_of self.new)) }
+    /// Makes some quiet turns, or ends with one that halts.
+    fn go_on(&mut self, budget: u64) -> Result<Option<Halt>, AllocError>
+        requires { (state_of self.old).machine.spent ≤ budget }
+        ensures runs { IfOk result (λ halt. halt ≡ None → Runs budget (state_of self.old) (state_of self.new)) }
+        ensures falls { IfOk result (λ halt. halt ≡ None → ((state_of self.new).machine.spent ≤ budget) × Falls 1 (state_of self.old) (state_of self.new)) }
+        ensures halts { IfOk result (λ halt. (why : Why) → halt ≡ Some why → Advances budget (state_of self.old) (state_of self.new) why) }
+        ensures goes { IfOk result (λ halt. (why : Why) → halt ≡ Some why → RunGoes (state_of self.old) (state_of self.new) why) }
     {
-        self.take(loaded)?;
+        self.skim(budget)?;
+        let did = self.turn()?;
+        if self.spent() > budget {
+            return Ok(Some(Halt::Spent));
+        }
+        match did {
+            Yield::Quiet => Ok(None),
+            Yield::Act(deed) => Ok(Some(Halt::Act(deed))),
+            Yield::Load(name) => Ok(Some(Halt::Load(name))),
+            Yield::Done(end) => Ok(Some(Halt::Done(end))),
+        }
+    }
+
+    /// Makes quiet turns, as many as come and each within the budget, and then the one that isn't quiet or passes the budget.
+    /// `Spent` comes exactly where that turn passes it. After an `Err` the mouth is only dropped.
+    pub fn advance(&mut self, budget: u64) -> Result<Halt, AllocError>
+        requires { (state_of self.old).machine.spent ≤ budget }
+        ensures advances { IfOk result (λ why. Advances budget (state_of self.old) (state_of self.new) why) }
+        ensures goes { IfOk result (λ why. RunGoes (state_of self.old) (state_of self.new) why) }
+    {
+        'steps: loop {
+            let before = self.spent();
+            'free: loop {
+                if let Some(halt) = self.go_on(budget)? {
+                    return Ok(halt);
+                }
+                if self.spent() > before {
+                    break;
+                }
+            }
+        }
+    }
+
+    /// Takes the answer of the load of this name. After an `Err` the mouth is only dropped.
+    pub fn resume(&mut self, name: &[u8], loaded: Loaded) -> Result<(), AllocError>
+        ensures now { OnOk result (state_of self.new ≡ resumed name.now (state_of self.old) loaded) }
+        ensures answered { OnOk result (IsAnswered (state_of self.old) (state_of self.new)) }
+    {
+        self.take(name, loaded)?;
         Ok(())
     }
 
-    #[tactic(auto, unfolding(crate::specs::Turn::resumed))]
-    fn take(&mut self, loaded: Loaded) -> Result<(), AllocError>
-        ensures { OnOk result (state_of self.new ≡ resumed (state_of self.old) loaded) }
+    #[tactic(auto, unfolding(crate::specs::Turn::resumed, crate::specs::Mouths::state_of))]
+    fn take(&mut self, name: &[u8], loaded: Loaded) -> Result<(), AllocError>
+        ensures { OnOk result (state_of self.new ≡ resumed name.now (state_of self.old) loaded) }
     {
-        let source = std::mem::replace(&mut self.source, Source::Refused);
-        self.source = take_answer(source, &mut self.state, loaded)?;
+        self.source = answer(&mut self.state, name, loaded)?;
         Ok(())
     }
 }

@@ -20,6 +20,7 @@ fn say_usage<T: Terminal>(alloc: Global, terminal: &mut T) -> Status
     ensures refusal { IsRefusal result }
     ensures write_cause { result ≡ Status.WriteFault → Rose (T.faults terminal.old) (T.faults terminal.new) }
     ensures later { T.faults terminal.old ≤ T.faults terminal.new }
+    ensures steady { result ≡ Status.Usage → T.counts_only_faults → T.faults terminal.new ≡ T.faults terminal.old }
 {
     let line = b"usage: etx run|alone [--workers N] [--steps N] FILE, etx gen N\n";
     match terminal.say(alloc, line) {
@@ -74,6 +75,7 @@ fn typeset_job<F: Tree, T: Terminal>(
     ensures complete { NoneRose (faults_of F.faults T.faults tree.old terminal.old) (faults_of F.faults T.faults tree.new terminal.new) →
         IsEnding result ⊎ (result ≡ Status.OutOfMemory) }
     ensures later { NoneFell (faults_of F.faults T.faults tree.old terminal.old) (faults_of F.faults T.faults tree.new terminal.new) }
+    ensures steady { IsEnding result → F.counts_only_faults → T.counts_only_faults → faults_of F.faults T.faults tree.new terminal.new ≡ faults_of F.faults T.faults tree.old terminal.old }
 {
     match run(alloc, job, tree, terminal) {
         Ok(ending) => find_status(ending),
@@ -133,6 +135,7 @@ pub fn typeset_alone<F: Tree, T: Terminal>(
     ensures complete { NoneRose (faults_of F.faults T.faults tree.old terminal.old) (faults_of F.faults T.faults tree.new terminal.new) →
         IsEnding result ⊎ (result ≡ Status.OutOfMemory) }
     ensures later { NoneFell (faults_of F.faults T.faults tree.old terminal.old) (faults_of F.faults T.faults tree.new terminal.new) }
+    ensures steady { IsEnding result → F.counts_only_faults → T.counts_only_faults → faults_of F.faults T.faults tree.new terminal.new ≡ faults_of F.faults T.faults tree.old terminal.old }
 {
     match find_job(alloc, words) {
         Ok(None) => say_usage(alloc, terminal),

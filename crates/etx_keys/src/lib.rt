@@ -14,6 +14,8 @@ mod number;
 mod parameters;
 mod single;
 mod table;
+#[cfg(test)]
+mod tests;
 
 pub use class::{Class, NumberRange};
 pub use key::Key;

@@ -11,6 +11,7 @@ use Rattle.etx_lexer.specs.declared.lexed.Lexed.{Lexed}
 use Rattle.etx_lexer.specs.declared.lexed.Lexed.TheVariants.{LineEnd}
 use Rattle.etx_lexer.proofs.Walks.{each_text, walk-nil, walk-front, walk-bare, no_front_none}
 use Rattle.etx_lexer.proofs.Bare.{bare_by_class}
+use Rattle.etx_lexer.proofs.Classes.{of_class, to_class}
 use Rattle.etx_lexer.proofs.Words.{names_of, only_name, name_is_shorter}
 use Rattle.etx_lexer.proofs.Shorter.{shorter_front}
 
@@ -40,17 +41,17 @@ Meets cats text state l = Lexes cats text state l.lexed l.rest l.state
 
 -- a character with no front meets the rules, if the text behind it does
 class_meets : (k : Class) (cats : ℕ → ℕ) (c : ℕ) (rest : List ℕ) (state : LineState) (later : Lex) → class_of (cats c) ≡ k → front_of cats (c ∷ rest) ≡ None → Meets cats rest state later → Meets cats (c ∷ rest) state (lex_char k cats state c rest later)
-class_meets class.Escape cats c rest state later h bare l = escape h (names_of cats rest)
-class_meets class.Return cats c rest New later h bare l = paragraph h
-class_meets class.Return cats c rest Middle later h bare l = line_space h
-class_meets class.Return cats c rest Skipping later h bare l = no_space h
-class_meets class.Ignored cats c rest state later h bare l = ignored h l
-class_meets class.Space cats c rest New later h bare l = first_space h l
-class_meets class.Space cats c rest Middle later h bare l = inner_space h
-class_meets class.Space cats c rest Skipping later h bare l = more_space h l
-class_meets class.Comment cats c rest state later h bare l = comment h
-class_meets class.Invalid cats c rest state later h bare l = invalid h
-class_meets class.Plain cats c rest state later h bare l = plain bare h
+class_meets class.Escape cats c rest state later h bare l = escape (of_class class.Escape (cats c) h) (names_of cats rest)
+class_meets class.Return cats c rest New later h bare l = paragraph (of_class class.Return (cats c) h)
+class_meets class.Return cats c rest Middle later h bare l = line_space (of_class class.Return (cats c) h)
+class_meets class.Return cats c rest Skipping later h bare l = no_space (of_class class.Return (cats c) h)
+class_meets class.Ignored cats c rest state later h bare l = ignored (of_class class.Ignored (cats c) h) l
+class_meets class.Space cats c rest New later h bare l = first_space (of_class class.Space (cats c) h) l
+class_meets class.Space cats c rest Middle later h bare l = inner_space (of_class class.Space (cats c) h)
+class_meets class.Space cats c rest Skipping later h bare l = more_space (of_class class.Space (cats c) h) l
+class_meets class.Comment cats c rest state later h bare l = comment (of_class class.Comment (cats c) h)
+class_meets class.Invalid cats c rest state later h bare l = invalid (of_class class.Invalid (cats c) h)
+class_meets class.Plain cats c rest state later h bare l = plain bare (of_class class.Plain (cats c) h)
 
 -- the function meets the rules
 pub lexes_of : (cats : ℕ → ℕ) (text : List ℕ) (state : LineState) → Meets cats text state (lexed_of cats text state)
@@ -64,17 +65,17 @@ lexes_of cats = each_text cats (λ text. (state : LineState) → Meets cats text
 pub only_lexed : (cats : ℕ → ℕ) {text rest : List ℕ} {state behind : LineState} {lexed : Lexed} → Lexes cats text state lexed rest behind → lexed_of cats text state ≡ lex lexed rest behind
 only_lexed cats line_over = lexed-nil cats _
 only_lexed cats (front h l) = lexed-front cats _ _ _ h ∙ only_lexed cats l
-only_lexed cats (escape h name) = lexed-special class.Escape cats _ _ _ (λ p. cc) h ∙ ap named_lex (only_name cats name)
-only_lexed cats (paragraph h) = lexed-special class.Return cats _ _ _ (λ p. cc) h
-only_lexed cats (line_space h) = lexed-special class.Return cats _ _ _ (λ p. cc) h
-only_lexed cats (no_space h) = lexed-special class.Return cats _ _ _ (λ p. cc) h
-only_lexed cats (ignored h l) = lexed-special class.Ignored cats _ _ _ (λ p. cc) h ∙ only_lexed cats l
-only_lexed cats (inner_space h) = lexed-special class.Space cats _ _ _ (λ p. cc) h
-only_lexed cats (first_space h l) = lexed-special class.Space cats _ _ _ (λ p. cc) h ∙ only_lexed cats l
-only_lexed cats (more_space h l) = lexed-special class.Space cats _ _ _ (λ p. cc) h ∙ only_lexed cats l
-only_lexed cats (comment h) = lexed-special class.Comment cats _ _ _ (λ p. cc) h
-only_lexed cats (invalid h) = lexed-special class.Invalid cats _ _ _ (λ p. cc) h
-only_lexed cats (plain bare h) = lexed-class class.Plain cats _ _ _ h bare
+only_lexed cats (escape h name) = lexed-special class.Escape cats _ _ _ (λ p. cc) (to_class class.Escape _ h) ∙ ap named_lex (only_name cats name)
+only_lexed cats (paragraph h) = lexed-special class.Return cats _ _ _ (λ p. cc) (to_class class.Return _ h)
+only_lexed cats (line_space h) = lexed-special class.Return cats _ _ _ (λ p. cc) (to_class class.Return _ h)
+only_lexed cats (no_space h) = lexed-special class.Return cats _ _ _ (λ p. cc) (to_class class.Return _ h)
+only_lexed cats (ignored h l) = lexed-special class.Ignored cats _ _ _ (λ p. cc) (to_class class.Ignored _ h) ∙ only_lexed cats l
+only_lexed cats (inner_space h) = lexed-special class.Space cats _ _ _ (λ p. cc) (to_class class.Space _ h)
+only_lexed cats (first_space h l) = lexed-special class.Space cats _ _ _ (λ p. cc) (to_class class.Space _ h) ∙ only_lexed cats l
+only_lexed cats (more_space h l) = lexed-special class.Space cats _ _ _ (λ p. cc) (to_class class.Space _ h) ∙ only_lexed cats l
+only_lexed cats (comment h) = lexed-special class.Comment cats _ _ _ (λ p. cc) (to_class class.Comment _ h)
+only_lexed cats (invalid h) = lexed-special class.Invalid cats _ _ _ (λ p. cc) (to_class class.Invalid _ h)
+only_lexed cats (plain bare h) = lexed-class class.Plain cats _ _ _ (to_class class.Plain _ h) bare
 
 -- no more is left than there was
 at_most : (rest text : List ℕ) → IsShorter rest text → length rest ≤ length text

@@ -1,4 +1,5 @@
 pub mod Bare
+pub mod Classes
 pub mod EndCharacters
 pub mod Ends
 pub mod FirstLines

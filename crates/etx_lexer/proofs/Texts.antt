@@ -30,8 +30,8 @@ pub lex_same : (l l' : Lexed) (r r' : List ℕ) (s s' : LineState) → l ≡ l' 
 lex_same l l' r r' s s' a b c = cc
 
 -- nothing is left at the end of a line
-pub behind_all : (line : List ℕ) → drop (length line) line ≡ []
-behind_all line = drop_all (length line) line (omega arith)
+pub behind_all : (line : List ℕ) (n : ℕ) → n ≡ length line → drop n line ≡ []
+behind_all line n all = drop_all n line (omega arith)
 
 -- a character that is skipped gives what the text behind it gives
 pub skipped_is_later : (k : Class) (cats : ℕ → ℕ) (state : LineState) (c : ℕ) (rest : List ℕ) (later : Lex) → skips k state ≡ true → lex_char k cats state c rest later ≡ later

@@ -1,5 +1,5 @@
 -- How the lexer treats each category.
-use Rattle.std.specs.Prelude.{ℕ, ◌==◌, if◌then◌else◌}
+use Rattle.std.specs.Prelude.{◌≢◌, ℕ, ◌==◌, if◌then◌else◌}
 use Rattle.etx_lexer.specs.declared.categories.Class.{Class}
 use Rattle.etx_lexer.specs.declared.categories.Class.TheVariants.{Escape, Return, Ignored, Space, Comment, Invalid, Plain}
 
@@ -12,3 +12,7 @@ class_of cat =
     else (if cat == 10 then Space
     else (if cat == 14 then Comment
     else (if cat == 15 then Invalid else Plain)))))
+
+-- a category that has no rule of its own
+abbrev pub IsOther : ℕ → Type 0
+IsOther cat = (cat ≢ 0) × (cat ≢ 5) × (cat ≢ 9) × (cat ≢ 10) × (cat ≢ 14) × (cat ≢ 15)

@@ -3,7 +3,7 @@ use Rattle.std.specs.Prelude.{◌≡◌, ℕ, ◌<◌, ◌≤◌, Bool, true, fa
 use Rattle.etx_lexer.specs.Fronts.{front_of}
 use Rattle.etx_lexer.specs.Reading.{walk}
 use Rattle.etx_lexer.specs.Names.{Names, Named, name_of}
-use Rattle.etx_lexer.specs.Classes.{class_of}
+use Rattle.etx_lexer.specs.Classes.{class_of, IsOther}
 use Rattle.etx_lexer.specs.declared.categories.Class.{Class}
 use Rattle.etx_lexer.specs.declared.categories.Class.TheVariants as class
 use Rattle.etx_lexer.specs.declared.place.LineState.{LineState}
@@ -19,31 +19,31 @@ par = 112 ∷ 97 ∷ 114 ∷ []
 abbrev pub space : Lexed
 space = Char 32 10
 
--- In the line's text and the state: what is lexed, the text behind it, and the state there. A rule for each case; where
--- no rule names another state, the state stays.
+-- In the line's text and the state: what is lexed, the text behind it, and the state there. A rule for each case, by the
+-- numbers of the categories ("TeX: The Program", section 207); where no rule names another state, the state stays.
 pub data Lexes (cats : ℕ → ℕ) : List ℕ → LineState → Lexed → List ℕ → LineState → Type 0 where
   -- the line is over
   line_over : {state : LineState} → Lexes cats [] state LineEnd [] state
   -- a front at the beginning is replaced, and the text is looked at again
   front : {text text' rest : List ℕ} {state state' : LineState} {lexed : Lexed} → front_of cats text ≡ Some text' → Lexes cats text' state lexed rest state' → Lexes cats text state lexed rest state'
   -- category 0: a name follows
-  escape : {c : ℕ} {text name rest : List ℕ} {state state' : LineState} → class_of (cats c) ≡ class.Escape → Names cats text name rest state' → Lexes cats (c ∷ text) state (Name name) rest state'
+  escape : {c : ℕ} {text name rest : List ℕ} {state state' : LineState} → cats c ≡ 0 → Names cats text name rest state' → Lexes cats (c ∷ text) state (Name name) rest state'
   -- category 5: the rest of the line is dropped
-  paragraph : {c : ℕ} {text : List ℕ} → class_of (cats c) ≡ class.Return → Lexes cats (c ∷ text) New (Name par) [] New
-  line_space : {c : ℕ} {text : List ℕ} → class_of (cats c) ≡ class.Return → Lexes cats (c ∷ text) Middle space [] Middle
-  no_space : {c : ℕ} {text : List ℕ} → class_of (cats c) ≡ class.Return → Lexes cats (c ∷ text) Skipping LineEnd [] Skipping
+  paragraph : {c : ℕ} {text : List ℕ} → cats c ≡ 5 → Lexes cats (c ∷ text) New (Name par) [] New
+  line_space : {c : ℕ} {text : List ℕ} → cats c ≡ 5 → Lexes cats (c ∷ text) Middle space [] Middle
+  no_space : {c : ℕ} {text : List ℕ} → cats c ≡ 5 → Lexes cats (c ∷ text) Skipping LineEnd [] Skipping
   -- category 9: the character is skipped
-  ignored : {c : ℕ} {text rest : List ℕ} {state state' : LineState} {lexed : Lexed} → class_of (cats c) ≡ class.Ignored → Lexes cats text state lexed rest state' → Lexes cats (c ∷ text) state lexed rest state'
+  ignored : {c : ℕ} {text rest : List ℕ} {state state' : LineState} {lexed : Lexed} → cats c ≡ 9 → Lexes cats text state lexed rest state' → Lexes cats (c ∷ text) state lexed rest state'
   -- category 10: a space within the line, and none at its beginning or where spaces are skipped
-  inner_space : {c : ℕ} {text : List ℕ} → class_of (cats c) ≡ class.Space → Lexes cats (c ∷ text) Middle space text Skipping
-  first_space : {c : ℕ} {text rest : List ℕ} {state' : LineState} {lexed : Lexed} → class_of (cats c) ≡ class.Space → Lexes cats text New lexed rest state' → Lexes cats (c ∷ text) New lexed rest state'
-  more_space : {c : ℕ} {text rest : List ℕ} {state' : LineState} {lexed : Lexed} → class_of (cats c) ≡ class.Space → Lexes cats text Skipping lexed rest state' → Lexes cats (c ∷ text) Skipping lexed rest state'
+  inner_space : {c : ℕ} {text : List ℕ} → cats c ≡ 10 → Lexes cats (c ∷ text) Middle space text Skipping
+  first_space : {c : ℕ} {text rest : List ℕ} {state' : LineState} {lexed : Lexed} → cats c ≡ 10 → Lexes cats text New lexed rest state' → Lexes cats (c ∷ text) New lexed rest state'
+  more_space : {c : ℕ} {text rest : List ℕ} {state' : LineState} {lexed : Lexed} → cats c ≡ 10 → Lexes cats text Skipping lexed rest state' → Lexes cats (c ∷ text) Skipping lexed rest state'
   -- category 14: the rest of the line is dropped
-  comment : {c : ℕ} {text : List ℕ} {state : LineState} → class_of (cats c) ≡ class.Comment → Lexes cats (c ∷ text) state LineEnd [] state
+  comment : {c : ℕ} {text : List ℕ} {state : LineState} → cats c ≡ 14 → Lexes cats (c ∷ text) state LineEnd [] state
   -- category 15: no character at all
-  invalid : {c : ℕ} {text : List ℕ} {state : LineState} → class_of (cats c) ≡ class.Invalid → Lexes cats (c ∷ text) state (Invalid c) text state
+  invalid : {c : ℕ} {text : List ℕ} {state : LineState} → cats c ≡ 15 → Lexes cats (c ∷ text) state (Invalid c) text state
   -- the other categories, where no front begins
-  plain : {c : ℕ} {text : List ℕ} {state : LineState} → front_of cats (c ∷ text) ≡ None → class_of (cats c) ≡ class.Plain → Lexes cats (c ∷ text) state (Char c (cats c)) text Middle
+  plain : {c : ℕ} {text : List ℕ} {state : LineState} → front_of cats (c ∷ text) ≡ None → IsOther (cats c) → Lexes cats (c ∷ text) state (Char c (cats c)) text Middle
 
 -- what is lexed, the text behind it, and the state there
 pub record Lex : Type 0 where

@@ -3,7 +3,7 @@ ghost use Rattle.std.specs.Prelude.{◌≡◌, ◌<◌, ◌≤◌, ◌&&◌, fal
 ghost use Rattle.etx_lexer.specs.Fronts.{is_hex, hex_value, hex_code, shifted, replaced, front_of};
 ghost use Rattle.etx_lexer.specs.Reading.{first_of};
 
-use crate::CatOf;
+use crate::{CatOf, Line};
 
 /// What stands for a front: a character, and the index of the byte behind the front.
 #[derive(Clone, Copy)]
@@ -54,7 +54,7 @@ fn shift(third: u8) -> u8
 
 /// What a front with this third character stands for. `next` is the index of the byte behind that character.
 #[tactic(auto, unfolding(crate::specs::Fronts::replaced))]
-fn replace(line: &[u8], third: u8, next: usize) -> Front
+fn replace(line: &Line<'_>, third: u8, next: usize) -> Front
     requires third_is_ascii { third < 128 }
     requires in_line { next ≤ length line.now }
     ensures text { result.code ∷ drop result.next line.now ≡ replaced third (drop next line.now) }
@@ -62,7 +62,7 @@ fn replace(line: &[u8], third: u8, next: usize) -> Front
     ensures in_line { result.next ≤ length line.now }
 {
     if next < line.len()
-        && let Some(code) = pair_code(third, line[next])
+        && let Some(code) = pair_code(third, line.at(next))
     {
         return Front {
             code,
@@ -77,7 +77,7 @@ fn replace(line: &[u8], third: u8, next: usize) -> Front
 
 /// The front that `code` begins where it stands before byte `at`. `None` exactly where it begins none.
 #[tactic(auto, unfolding(crate::specs::Fronts::front_of, crate::specs::Fronts::is_front))]
-fn front_at<C: CatOf>(line: &[u8], code: u8, at: usize, cats: &C) -> Option<Front>
+fn front_at<C: CatOf>(line: &Line<'_>, code: u8, at: usize, cats: &C) -> Option<Front>
     requires { at ≤ length line.now }
     ensures { let found = front_of (C.category cats.now) (code ∷ drop at line.now) in
         MatchOption result (found ≡ None)
@@ -86,15 +86,15 @@ fn front_at<C: CatOf>(line: &[u8], code: u8, at: usize, cats: &C) -> Option<Fron
     if line.len() - at < 2 {
         return None;
     }
-    let third = line[at + 1];
-    if line[at] != code || third >= 128 || cats.cat(code) != 7 {
+    let third = line.at(at + 1);
+    if line.at(at) != code || third >= 128 || cats.cat(code) != 7 {
         return None;
     }
     Some(replace(line, third, at + 2))
 }
 
 /// The next character where `code` stands before byte `at`: one front after another is replaced.
-pub(crate) fn first_from<C: CatOf>(line: &[u8], mut code: u8, mut at: usize, cats: &C) -> First
+pub(crate) fn first_from<C: CatOf>(line: &Line<'_>, mut code: u8, mut at: usize, cats: &C) -> First
     requires { at ≤ length line.now }
     ensures first { first_of (C.category cats.now) (code ∷ drop at line.now)
         ≡ Some (record { code = result.code; rest = drop result.next line.now }) }
@@ -115,7 +115,7 @@ pub(crate) fn first_from<C: CatOf>(line: &[u8], mut code: u8, mut at: usize, cat
 }
 
 /// The next character from byte `at` of a line on. `None` exactly where no byte is left.
-pub(crate) fn first_in<C: CatOf>(line: &[u8], at: usize, cats: &C) -> Option<First>
+pub(crate) fn first_in<C: CatOf>(line: &Line<'_>, at: usize, cats: &C) -> Option<First>
     ensures { let found = first_of (C.category cats.now) (drop at line.now) in
         MatchOption result (found ≡ None)
         (λ f. (found ≡ Some (record { code = f.code; rest = drop f.next line.now }))
@@ -124,5 +124,5 @@ pub(crate) fn first_in<C: CatOf>(line: &[u8], at: usize, cats: &C) -> Option<Fir
     if at >= line.len() {
         return None;
     }
-    Some(first_from(line, line[at], at + 1, cats))
+    Some(first_from(line, line.at(at), at + 1, cats))
 }

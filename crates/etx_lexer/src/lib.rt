@@ -19,6 +19,6 @@ mod tests;
 pub use categories::CatOf;
 pub use law::{each_text_has_one_first_line, each_text_is_lexed_in_one_way};
 pub use lexed::Lexed;
-pub use line::Line;
+pub use line::{Line, end_character, trimmed_length};
 pub use lines::{LineSpan, next_line};
 pub use place::{LinePlace, LineState};

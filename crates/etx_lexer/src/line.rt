@@ -1,5 +1,6 @@
 // One line, and what is lexed of it.
-ghost use Rattle.std.specs.Prelude.{◌≡◌, ◌<◌, ◌≤◌, [], ◌∷◌, false, IfOk, OnOk, MatchOption, None, Some, length, drop, take};
+ghost use Rattle.std.specs.Prelude.{◌≡◌, ◌<◌, ◌≤◌, ◌+◌, ◌++◌, [], ◌∷◌, false, IfOk, OnOk, MatchOption, None, Some, length, drop, take, slice_index};
+ghost use Rattle.std.specs.Option.{option_to_list};
 ghost use Rattle.etx_lexer.specs.Places.{rest_of, trimmed, line_of, end_of_line};
 ghost use Rattle.etx_lexer.specs.Lex.{Lexes, Lex, lexed_of, lex, lex_char, at_return, skips, IsShorter, HasCategory};
 ghost use Rattle.etx_lexer.specs.Classes.{class_of};
@@ -17,33 +18,39 @@ use std::marker::Model;
 /// The code of the space that a line gives, and of the spaces that are dropped at a line's end.
 const BLANK: u8 = 32;
 
-/// One line as it is lexed, which contracts see as the list of its bytes.
+/// One line as it is lexed: bytes of a text, and the character that is put behind them, if there is one. Contracts see it
+/// as the list of its characters.
 #[derive(Debug, Drop)]
-pub struct Line {
-    bytes: Bytes,
+pub struct Line<'a> {
+    bytes: &'a [u8],
+    end: Option<u8>,
 }
 
-impl Model for Line {
-    ghost use Rattle.std.specs.Prelude.{List, ℕ};
+impl<'a> Model for Line<'a> {
+    ghost use Rattle.std.specs.Prelude.{List, ℕ, ◌++◌, ◌≤◌, length};
+    ghost use Rattle.std.specs.Option.{option_to_list};
 
     ghost Value = { List ℕ };
 
-    ghost view = { λ line. line.bytes };
+    ghost view = { λ line. line.bytes.now ++ option_to_list line.end };
+
+    ghost invariant = { λ line. length line.bytes.now ≤ 1073741824 };
 }
 
-/// The bytes without the spaces at their end.
-fn trim(bytes: &[u8]) -> &[u8]
-    ensures { result.now ≡ trimmed bytes.now }
+/// How many bytes of a line are left without the spaces (byte 32) at its end.
+pub fn trimmed_length(bytes: &[u8]) -> usize
+    ensures value { take result bytes.now ≡ trimmed bytes.now }
+    ensures small { result ≤ length bytes.now }
 {
     let mut end = bytes.len();
     while end > 0 && bytes[end - 1] == BLANK {
         end -= 1;
     }
-    &bytes[..end]
+    end
 }
 
-/// The character that `endline` adds to each line, if it is the code of one.
-fn end_character(endline: i32) -> Option<u8>
+/// The character that `endline` puts behind each line, if it is the code of one.
+pub fn end_character(endline: i32) -> Option<u8>
     ensures { MatchOption result (end_of_line endline ≡ []) (λ c. end_of_line endline ≡ c ∷ []) }
 {
     if endline >= 0 && endline < 256 {
@@ -54,7 +61,7 @@ fn end_character(endline: i32) -> Option<u8>
 }
 
 /// The next character of the rest of a line. `None` exactly at the line's end.
-fn first_at<C: CatOf>(line: &[u8], place: LinePlace, cats: &C) -> Option<First>
+fn first_at<C: CatOf>(line: &Line<'_>, place: LinePlace, cats: &C) -> Option<First>
     ensures { let found = first_of (C.category cats.now) (rest_of line.now place) in
         MatchOption result (found ≡ None)
         (λ f. (found ≡ Some (record { code = f.code; rest = drop f.next line.now }))
@@ -98,7 +105,7 @@ fn return_in(alloc: Global, state: LineState) -> Result<Lexed, AllocError>
 /// What a character gives that isn't skipped, and the place behind it.
 fn lex_first<C: CatOf>(
     alloc: Global,
-    line: &[u8],
+    line: &Line<'_>,
     class: Class,
     first: First,
     state: LineState,
@@ -106,7 +113,7 @@ fn lex_first<C: CatOf>(
 ) -> Result<(Lexed, LinePlace), AllocError>
     requires counts { skips class state ≡ false }
     requires within { first.next ≤ length line.now }
-    requires small { length line.now ≤ 1073741824 }
+    requires small { length line.now ≤ 1073741825 }
     requires cat { first.cat ≡ C.category cats.now first.code }
     requires small_cat { first.cat ≤ 15 }
     ensures value { IfOk result (λ r. (later : Lex) →
@@ -146,11 +153,11 @@ fn lex_first<C: CatOf>(
 /// What is lexed next at a place of a line, and the place behind it.
 fn lex_at<C: CatOf>(
     alloc: Global,
-    line: &[u8],
+    line: &Line<'_>,
     mut place: LinePlace,
     cats: &C,
 ) -> Result<(Lexed, LinePlace), AllocError>
-    requires { length line.now ≤ 1073741824 }
+    requires { length line.now ≤ 1073741825 }
     ensures value { IfOk result (λ r. lexed_of (C.category cats.now) (rest_of line.now place) place.state
         ≡ lex r.0 (rest_of line.now r.1) r.1.state) }
     ensures category { IfOk result (λ r. HasCategory r.0) }
@@ -165,17 +172,39 @@ fn lex_at<C: CatOf>(
     Ok((Lexed::LineEnd, place_at(None, line.len(), place.state)))
 }
 
-impl Line {
-    /// A line of a file: its bytes without the spaces (byte 32) at their end, and then the character `endline`, if that
-    /// is 0 to 255.
-    pub fn new(alloc: Global, bytes: &[u8], endline: i32) -> Result<Line, AllocError>
-        ensures { IfOk result (λ line. line ≡ line_of bytes.now endline) }
+impl<'a> Line<'a> {
+    /// A line of these bytes, and of this character behind them, if there is one.
+    pub fn new(bytes: &'a [u8], end: Option<u8>) -> Line<'a>
+        requires { length bytes.now ≤ 1073741824 }
+        ensures { result ≡ bytes.now ++ option_to_list end }
     {
-        let mut bytes = Bytes::from_slice(alloc, trim(bytes))?;
-        if let Some(c) = end_character(endline) {
-            bytes.push(c)?;
+        Line { bytes, end }
+    }
+
+    /// How many characters the line has.
+    pub(crate) fn len(&self) -> usize
+        ensures len { result ≡ length self.now }
+        ensures small { result ≤ 1073741825 }
+    {
+        match self.end {
+            None => self.bytes.len(),
+            Some(_) => self.bytes.len() + 1,
         }
-        Ok(Line { bytes })
+    }
+
+    /// The character at a place, counted from 0.
+    pub(crate) fn at(&self, i: usize) -> u8
+        requires { i < length self.now }
+        ensures value { result ≡ slice_index self.now i }
+        ensures rest { drop i self.now ≡ result ∷ drop (i + 1) self.now }
+    {
+        if i < self.bytes.len() {
+            return self.bytes[i];
+        }
+        match self.end {
+            Some(end) => end,
+            None => unreachable!(),
+        }
     }
 
     /// What is lexed next at a place under these categories, and the place behind it.
@@ -194,6 +223,8 @@ impl Line {
         ensures shorter { IfOk result (λ r. IsShorter (rest_of self.now r.1) (rest_of self.now place)) }
         ensures category { IfOk result (λ r. HasCategory r.0) }
     {
-        lex_at(alloc, self.bytes.as_slice(), place, cats)
+        // The bound of a line's length.
+        let _length = self.len();
+        lex_at(alloc, self, place, cats)
     }
 }

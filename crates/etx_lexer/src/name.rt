@@ -5,7 +5,7 @@ ghost use Rattle.etx_lexer.specs.Places.{rest_of, behind_head};
 
 use crate::front::{First, first_in};
 use crate::place::place_at;
-use crate::{CatOf, LinePlace, LineState};
+use crate::{CatOf, Line, LinePlace, LineState};
 use etx_lists::Bytes;
 use std::alloc::{AllocError, Global};
 
@@ -16,12 +16,12 @@ const SPACE: u8 = 10;
 /// Adds the letters from byte `at` on to a name, and gives the place behind them.
 fn read_word<C: CatOf>(
     mut name: Bytes,
-    line: &[u8],
+    line: &Line<'_>,
     mut at: usize,
     cats: &C,
 ) -> Result<(Bytes, LinePlace), AllocError>
     requires within { at ≤ length line.now }
-    requires small { length line.now ≤ 1073741824 }
+    requires small { length line.now ≤ 1073741825 }
     ensures { IfOk result (λ r. let word = word_of (C.category cats.now) (drop at line.now) in
         (r.0 ≡ name ++ word.letters) × (rest_of line.now r.1 ≡ word.rest) × (r.1.state ≡ LineState.Skipping)) }
 {
@@ -41,12 +41,12 @@ fn read_word<C: CatOf>(
 /// The name that begins with this character.
 fn read_from<C: CatOf>(
     alloc: Global,
-    line: &[u8],
+    line: &Line<'_>,
     first: First,
     cats: &C,
 ) -> Result<(Bytes, LinePlace), AllocError>
     requires within { first.next ≤ length line.now }
-    requires small { length line.now ≤ 1073741824 }
+    requires small { length line.now ≤ 1073741825 }
     requires cat { first.cat ≡ C.category cats.now first.code }
     ensures { IfOk result (λ r. named_at (C.category cats.now) first.code (drop first.next line.now)
         ≡ record { name = r.0; rest = rest_of line.now r.1; state = r.1.state }) }
@@ -67,12 +67,12 @@ fn read_from<C: CatOf>(
 /// The name from byte `at` on, and the place behind it.
 pub(crate) fn read_name<C: CatOf>(
     alloc: Global,
-    line: &[u8],
+    line: &Line<'_>,
     at: usize,
     cats: &C,
 ) -> Result<(Bytes, LinePlace), AllocError>
     requires within { at ≤ length line.now }
-    requires small { length line.now ≤ 1073741824 }
+    requires small { length line.now ≤ 1073741825 }
     ensures { IfOk result (λ r. name_of (C.category cats.now) (drop at line.now)
         ≡ record { name = r.0; rest = rest_of line.now r.1; state = r.1.state }) }
 {

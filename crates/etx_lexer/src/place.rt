@@ -40,7 +40,7 @@ impl LinePlace {
 
 /// The place with this head before byte `at`.
 pub(crate) fn place_at(head: Option<u8>, at: usize, state: LineState) -> LinePlace
-    requires { at ≤ 1073741824 }
+    requires { at ≤ 1073741825 }
     ensures { result ≡ record { at = at; head = head; state = state } }
 {
     LinePlace {

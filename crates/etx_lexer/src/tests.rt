@@ -1,7 +1,7 @@
 // Lines against the book's rules, and texts against the rules of lines.
 ghost use Rattle.std.specs.Prelude.{◌≡◌, ◌≤◌, min, slice_index};
 
-use crate::{CatOf, Lexed, Line, LinePlace, LineState, next_line};
+use crate::{CatOf, Lexed, Line, LinePlace, LineState, end_character, next_line, trimmed_length};
 use std::alloc::{AllocError, Global};
 use std::process::Abort;
 use std::test::Fail;
@@ -48,11 +48,17 @@ fn plain() -> Categories {
     Categories { table }
 }
 
+/// A line of at most two million bytes, as it is read.
+fn line_of(bytes: &[u8], endline: i32) -> Line<'_> {
+    let kept = trimmed_length(bytes).min(2_000_000);
+    Line::new(&bytes[..kept], end_character(endline))
+}
+
 /// All that is lexed of a line: CODE.CATEGORY for a character, a backslash and the name, an exclamation mark and the
 /// code of an invalid character, and a dollar sign for the line's end.
 fn shown(alloc: Global, bytes: &[u8], endline: i32) -> Result<String, AllocError> {
     let categories = plain();
-    let line = Line::new(alloc, bytes, endline)?;
+    let line = line_of(bytes, endline);
     let mut place = LinePlace::start();
     let mut out = String::new(alloc);
     for _ in 0..100 {
@@ -227,7 +233,7 @@ fn texts_are_split_into_lines(rt: HostRuntime) -> Result<(), Fail> {
 
 #[test]
 fn a_place_past_the_end_is_the_end(rt: HostRuntime) -> Result<(), Fail> {
-    let line = Line::new(rt.alloc(), b"a", -1)?;
+    let line = line_of(b"a", -1);
     let past = LinePlace {
         at: 7,
         head: None,
@@ -259,13 +265,13 @@ fn a_long_line_takes_little_time(rt: HostRuntime) -> Result<(), Fail> {
     let mut named = Vec::from_slice(rt.alloc(), b"\\")?;
     named.extend_from_slice(bytes.as_slice())?;
     let categories = plain();
-    let line = Line::new(rt.alloc(), named.as_slice(), -1)?;
+    let line = line_of(named.as_slice(), -1);
     let (lexed, _) = line.next(rt.alloc(), LinePlace::start(), &categories)?;
     let Lexed::Name(name) = lexed else {
         return Err("no name".into());
     };
     assert_eq!(rt; name.len(), 250000);
-    let line = Line::new(rt.alloc(), bytes.as_slice(), -1)?;
+    let line = line_of(bytes.as_slice(), -1);
     let mut place = LinePlace::start();
     for _ in 0..250000 {
         let (lexed, behind) = line.next(rt.alloc(), place, &categories)?;

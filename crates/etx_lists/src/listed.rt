@@ -3,6 +3,7 @@ ghost use Rattle.std.specs.Option.{option_copied};
 
 use std::alloc::{AllocError, Global};
 use std::marker::Model;
+use std::vec::IntoIter;
 
 /// The most items that a list has.
 pub const MOST: usize = 1_073_741_824;
@@ -39,6 +40,22 @@ impl<T> Listed<T> {
         Listed {
             items: Vec::new(alloc),
         }
+    }
+
+    /// The empty list, with room for this many items.
+    pub fn with_room(alloc: Global, count: usize) -> Result<Listed<T>, AllocError>
+        ensures { IfOk result (λ it. it ≡ []) }
+    {
+        let items = Vec::with_capacity(alloc, count)?;
+        Ok(Listed { items })
+    }
+
+    /// Makes room for this many items more, so that pushing them takes no memory. The items stay, at want of memory too.
+    pub fn reserve(&mut self, more: usize) -> Result<(), AllocError>
+        ensures { self.new ≡ self.old }
+    {
+        self.items.reserve(more)?;
+        Ok(())
     }
 
     pub fn as_slice(&self) -> &[T]
@@ -84,6 +101,41 @@ impl<T> Listed<T> {
     }
 }
 
+impl<T> Listed<T> {
+    pub(crate) fn into_items(self) -> Vec<T>
+        ensures value { result.items ≡ self }
+        ensures small { length result.items ≤ 1073741824 }
+    {
+        let Listed { items } = self;
+        items
+    }
+
+    pub(crate) fn of_items(items: Vec<T>) -> Listed<T>
+        requires { length items.items ≤ 1073741824 }
+        ensures { result ≡ items.items }
+    {
+        Listed { items }
+    }
+}
+
+impl<T: Drop> IntoIterator for Listed<T> {
+    ghost use Rattle.std.specs.Prelude.{◌≡◌, ◌<◌, ◌^◌, length};
+    ghost use Rattle.std.specs.Vec.Iter.{into_iter_items, into_iter_len, into_iter_steps};
+    ghost use Rattle.std.specs.Iterator.Runs.{EveryRun, ItemsAre};
+    ghost use Rattle.std.specs.declared.alloc.Global.{Global};
+
+    type Item = T;
+
+    type IntoIter = IntoIter<T, Global>;
+
+    ghost into_iter_gives = { λ it r. (into_iter_items r ≡ it) × (into_iter_len r ≡ length it) × (into_iter_len r < 2 ^ 64) × EveryRun (into_iter_steps {X = T} {Z = Global}) (λ p. ItemsAre p (into_iter_items p.from)) };
+
+    /// The items, by value, in their order.
+    fn into_iter(self) -> IntoIter<T, Global> {
+        self.into_items().into_iter()
+    }
+}
+
 impl<T: Drop> Listed<T> {
     /// Takes the items of a `Vec`, without taking memory.
     pub fn from_vec(items: Vec<T>) -> Result<Listed<T>, AllocError>
@@ -106,12 +158,16 @@ impl<T: Drop> Listed<T> {
         Ok(())
     }
 
-    /// Moves the items of `tail` to the end.
+    /// Moves the items of `tail` to the end. An empty list takes the memory of `tail` over, and no item is moved.
     pub fn append(&mut self, tail: Listed<T>) -> Result<(), AllocError>
         ensures ok { OnOk result (self.new ≡ self.old ++ tail) }
         ensures err { OnErr result (self.new ≡ self.old) }
     {
         let Listed { mut items } = tail;
+        if self.items.is_empty() {
+            self.items = items;
+            return Ok(());
+        }
         if items.len() > MOST - self.items.len() {
             return Err(AllocError);
         }

@@ -2,6 +2,7 @@ pub mod Calls
 pub mod Feeding
 pub mod Marks
 pub mod Matching
+pub mod OpenPatterns
 pub mod ParameterText
 pub mod Progress
 pub mod Says

@@ -2,6 +2,8 @@
 use Rattle.std.specs.Prelude.{ℕ, zero, suc, Bool, true, false, drop, ◌&&◌, All, length, take, ◌-◌, List, [], ◌∷◌, Option, Some, None, ◌==◌, ◌≡◌, ◌<◌, ◌++◌, if◌then◌else◌}
 use Rattle.etx_matter.specs.declared.token.Token.{Token}
 use Rattle.etx_matter.specs.declared.token.Token.TheVariants.{Char, Name, Param}
+use Rattle.etx_macros.specs.declared.mark.Brace.{Brace}
+use Rattle.etx_macros.specs.declared.mark.Brace.TheVariants.{Left, Right, Neither}
 
 -- a character of this category
 abbrev pub has_category : Token → ℕ → Bool
@@ -20,6 +22,10 @@ abbrev pub is_par : Token → Bool
 is_par (Char code cat) = false
 is_par (Name name) = name.0 == 0
 is_par (Param k) = false
+
+-- whether a token is a brace: a character of category 1 or 2
+unfoldable pub brace_of : Token → Brace
+brace_of t = if has_category t 1 then Left else if has_category t 2 then Right else Neither
 
 -- a token that is no brace
 abbrev pub IsUnbraced : Token → Type 0

@@ -10,6 +10,7 @@ mod fault;
 mod law;
 mod mark;
 mod matcher;
+mod open_pattern;
 mod pattern;
 mod progress;
 mod substitution;
@@ -21,6 +22,8 @@ pub use law::{
     a_match_says_of_each_token_what_is_true, an_extra_brace_is_known_before_it_is_fed,
     each_text_begins_with_one_call, one_thing_is_said_of_any_tokens,
 };
+pub use mark::{Brace, brace_of};
 pub use matcher::Matcher;
+pub use open_pattern::OpenPattern;
 pub use pattern::{Pattern, PatternFault};
 pub use substitution::substitute;

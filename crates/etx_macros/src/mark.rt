@@ -1,6 +1,6 @@
 // What a token is to a macro call.
-ghost use Rattle.std.specs.Prelude.{◌≡◌, ◌<◌, ◌≤◌, ◌^◌, ◌↔◌, IsTrue, length};
-ghost use Rattle.etx_macros.specs.Marks.{has_category, is_space, is_par, behind, IsBalanced, same_token, ends_with};
+ghost use Rattle.std.specs.Prelude.{◌≡◌, ◌<◌, ◌≤◌, ◌^◌, ◌↔◌, true, IsTrue, length};
+ghost use Rattle.etx_macros.specs.Marks.{has_category, brace_of, IsUnbraced, is_space, is_par, behind, IsBalanced, same_token, ends_with};
 
 use etx_matter::{PAR, Token};
 
@@ -11,6 +11,30 @@ pub fn has_category(token: Token, category: u8) -> bool
     match token {
         Token::Char { code: _, cat } => cat == category,
         Token::Name(_) | Token::Param(_) => false,
+    }
+}
+
+/// Whether a token is a brace: a character of category 1 or 2.
+#[derive(Clone, Copy, Debug, PartialEq, Eq)]
+pub enum Brace {
+    Left,
+    Right,
+    Neither,
+}
+
+/// Which brace a token is.
+#[tactic(auto, unfolding(crate::specs::Marks::brace_of))]
+pub fn brace_of(token: Token) -> Brace
+    ensures brace { result ≡ brace_of token }
+    ensures left { result ≡ Brace.Left → has_category token 1 ≡ true }
+    ensures neither { result ≡ Brace.Neither → IsUnbraced token }
+{
+    if has_category(token, 1) {
+        Brace::Left
+    } else if has_category(token, 2) {
+        Brace::Right
+    } else {
+        Brace::Neither
     }
 }
 

@@ -151,7 +151,11 @@ fn next_in(tokens: &[Token], at: usize, count: usize) -> Result<Next, PatternFau
 }
 
 /// A pattern of these parts, and a last one.
-fn whole(alloc: Global, mut parts: Listed<Tokens>, last: Tokens) -> Result<Pattern, AllocError>
+pub(crate) fn whole(
+    alloc: Global,
+    mut parts: Listed<Tokens>,
+    last: Tokens,
+) -> Result<Pattern, AllocError>
     requires parts { All IsDelimiter parts }
     requires last { IsDelimiter last }
     ensures { IfOk result (λ pattern. pattern ≡ parts ++ last ∷ []) }

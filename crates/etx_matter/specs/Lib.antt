@@ -2,6 +2,8 @@ pub mod Ends
 pub mod Fonts
 pub mod GlueSets
 pub mod Jobs
+pub mod Layers
+pub mod Lending
 pub mod Ligatures
 pub mod Nests
 pub mod Sizes

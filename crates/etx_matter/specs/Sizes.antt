@@ -1,18 +1,9 @@
 -- What one node is, without what stands in it: its sizes, whether it goes at the start of a line or page, and its type.
 use Rattle.std.specs.Prelude.{ℤ, pos, ℕ, Bool, true, false, Option, Some, None}
+use Rattle.etx_matter.specs.declared.glue.Glue.{Glue}
 use Rattle.etx_matter.specs.declared.node.Node.{Node, Node-F, out-Node}
-use Rattle.etx_matter.specs.declared.node.Leader.{Leader}
-use Rattle.etx_matter.specs.declared.node.Noad.{Noad, Noad-F, out-Noad}
-use Rattle.etx_matter.specs.declared.node.Field.{Field}
-use Rattle.etx_matter.specs.declared.node.BoxNode.{BoxNode}
-use Rattle.etx_matter.specs.declared.node.UnsetBox.{UnsetBox}
-
--- one layer of a node
-abbrev pub NodeLayer : Type 0
-NodeLayer = Node-F Field Leader Noad Node BoxNode UnsetBox
-
-abbrev pub NoadLayer : Type 0
-NoadLayer = Noad-F Field Leader Noad Node BoxNode UnsetBox
+use Rattle.etx_matter.specs.declared.node.Noad.{Noad-F, out-Noad}
+use Rattle.etx_matter.specs.Layers.{NodeLayer, NoadLayer}
 
 -- a size of a rule that runs as far as the box around it counts nothing
 abbrev pub size_or_zero : Option ℤ → ℤ
@@ -21,9 +12,10 @@ size_or_zero (Some size) = size
 
 abbrev pub layer_width : NodeLayer → ℤ
 layer_width (Node-F.Char font code size) = size.width
-layer_width (Node-F.Lig font code size letters left right) = size.width
+layer_width (Node-F.Lig font code size parts) = size.width
 layer_width (Node-F.Kern width kind) = width
-layer_width (Node-F.Glue glue leader) = glue.width
+layer_width (Node-F.Glue glue) = glue.width
+layer_width (Node-F.Leaders glue leader) = glue.width
 layer_width (Node-F.Rule size) = size_or_zero size.width
 layer_width (Node-F.Box it) = it.width
 layer_width (Node-F.Math on width) = width
@@ -32,7 +24,7 @@ layer_width _ = pos 0
 
 abbrev pub layer_height : NodeLayer → ℤ
 layer_height (Node-F.Char font code size) = size.height
-layer_height (Node-F.Lig font code size letters left right) = size.height
+layer_height (Node-F.Lig font code size parts) = size.height
 layer_height (Node-F.Rule size) = size_or_zero size.height
 layer_height (Node-F.Box it) = it.height
 layer_height (Node-F.Unset it) = it.height
@@ -40,14 +32,20 @@ layer_height _ = pos 0
 
 abbrev pub layer_depth : NodeLayer → ℤ
 layer_depth (Node-F.Char font code size) = size.depth
-layer_depth (Node-F.Lig font code size letters left right) = size.depth
+layer_depth (Node-F.Lig font code size parts) = size.depth
 layer_depth (Node-F.Rule size) = size_or_zero size.depth
 layer_depth (Node-F.Box it) = it.depth
 layer_depth (Node-F.Unset it) = it.depth
 layer_depth _ = pos 0
 
+abbrev pub layer_glue : NodeLayer → Option Glue
+layer_glue (Node-F.Glue glue) = Some glue
+layer_glue (Node-F.Leaders glue leader) = Some glue
+layer_glue _ = None
+
 abbrev pub layer_is_discardable : NodeLayer → Bool
-layer_is_discardable (Node-F.Glue glue leader) = true
+layer_is_discardable (Node-F.Glue glue) = true
+layer_is_discardable (Node-F.Leaders glue leader) = true
 layer_is_discardable (Node-F.Kern width kind) = true
 layer_is_discardable (Node-F.Penalty penalty) = true
 layer_is_discardable (Node-F.Math on width) = true
@@ -68,14 +66,15 @@ abbrev pub layer_type : NodeLayer → ℕ
 layer_type (Node-F.Char font code size) = 0
 layer_type (Node-F.Box it) = box_type it.vertical
 layer_type (Node-F.Rule size) = 3
-layer_type (Node-F.Ins class height depth cost top list) = 4
-layer_type (Node-F.Mark class tokens) = 5
+layer_type (Node-F.Ins it) = 4
+layer_type (Node-F.Mark it) = 5
 layer_type (Node-F.Adjust list) = 6
-layer_type (Node-F.Lig font code size letters left right) = 7
-layer_type (Node-F.Disc pre post replaces) = 8
+layer_type (Node-F.Lig font code size parts) = 7
+layer_type (Node-F.Disc it) = 8
 layer_type (Node-F.What what) = 9
 layer_type (Node-F.Math on width) = 10
-layer_type (Node-F.Glue glue leader) = 11
+layer_type (Node-F.Glue glue) = 11
+layer_type (Node-F.Leaders glue leader) = 11
 layer_type (Node-F.Kern width kind) = 12
 layer_type (Node-F.Penalty penalty) = 13
 layer_type (Node-F.Unset it) = 14
@@ -92,6 +91,10 @@ height_of node = layer_height (out-Node node)
 -- how far a node reaches below its baseline
 unfoldable pub depth_of : Node → ℤ
 depth_of node = layer_depth (out-Node node)
+
+-- the glue that a node is, filled or blank
+unfoldable pub glue_of : Node → Option Glue
+glue_of node = layer_glue (out-Node node)
 
 -- whether a node goes where it comes first after a break
 unfoldable pub is_discardable : Node → Bool

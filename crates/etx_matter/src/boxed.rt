@@ -1,5 +1,6 @@
 //! A `Box` in types that contracts compare.
 ghost use Rattle.std.specs.Prelude.{◌≡◌, IfOk};
+ghost use Rattle.std.specs.Borrow.{sem};
 
 use std::alloc::{AllocError, Global};
 use std::marker::Model;
@@ -21,11 +22,21 @@ impl<T> Model for Boxed<T> {
 }
 
 impl<T> Boxed<T> {
+    ghost use Rattle.etx_matter.specs.Lending.{lends_content};
+
     /// What it holds.
     pub fn get(&self) -> &T
         ensures { result.now ≡ self.now }
     {
         &self.inner
+    }
+
+    /// What it holds, to be changed in its place.
+    pub fn get_mut(&mut self) -> &mut T
+        ensures* writes_back { sem 𝓛 (lends_content T.row self.entry result) }
+        ensures value { result.now ≡ self.old }
+    {
+        &mut self.inner
     }
 
     /// Gives away what it holds. Takes no memory.

@@ -2,16 +2,19 @@
 ghost use Rattle.std.specs.Prelude.{◌≡◌, IfOk};
 
 use crate::boxed::Boxed;
-use crate::node::{BoxNode, Field, Leader, Noad, Node, Nodes, UnsetBox};
+use crate::node::{
+    BoxNode, Discretionary, Field, InnerList, Insertion, Leader, LigParts, Mark, Noad, Node, Nodes,
+    UnsetBox,
+};
 use crate::whats::What;
 use std::alloc::{AllocError, Global};
 
-/// An equal list.
+/// An equal list. Its room is taken once.
 #[cycle(copies)]
 pub fn copy_nodes(alloc: Global, list: &Nodes) -> Result<Nodes, AllocError>
     ensures { IfOk result (λ copy. copy ≡ list.now) }
 {
-    let mut copy = Nodes::new(alloc);
+    let mut copy = Nodes::with_room(alloc, list.len())?;
     for node in list.as_slice() {
         copy.push(node.copy(alloc)?)?;
     }
@@ -19,7 +22,7 @@ pub fn copy_nodes(alloc: Global, list: &Nodes) -> Result<Nodes, AllocError>
 }
 
 impl What {
-    /// An equal one.
+    /// An equal one. The tokens of a `\write` are shared.
     pub fn copy(&self) -> Result<What, AllocError>
         ensures { IfOk result (λ copy. copy ≡ self.now) }
     {
@@ -30,7 +33,7 @@ impl What {
             }),
             What::Write { stream, tokens } => Ok(What::Write {
                 stream: *stream,
-                tokens: tokens.copy()?,
+                tokens: tokens.share()?,
             }),
             What::CloseFile { stream } => Ok(What::CloseFile { stream: *stream }),
             What::Special(text) => Ok(What::Special(text.copy()?)),
@@ -47,6 +50,44 @@ impl What {
     }
 }
 
+impl LigParts {
+    /// Equal ones.
+    pub fn copy(&self) -> Result<LigParts, AllocError>
+        ensures { IfOk result (λ copy. copy ≡ self.now) }
+    {
+        Ok(LigParts {
+            letters: self.letters.copy()?,
+            left: self.left,
+            right: self.right,
+        })
+    }
+}
+
+impl Mark {
+    /// An equal one, which shares the tokens.
+    pub fn copy(&self) -> Result<Mark, AllocError>
+        ensures { IfOk result (λ copy. copy ≡ self.now) }
+    {
+        Ok(Mark {
+            class: self.class,
+            tokens: self.tokens.share()?,
+        })
+    }
+}
+
+impl InnerList {
+    /// An equal one.
+    #[cycle(copies)]
+    pub fn copy(&self, alloc: Global) -> Result<InnerList, AllocError>
+        ensures { IfOk result (λ copy. copy ≡ self.now) }
+    {
+        Ok(InnerList {
+            nesting: self.nesting,
+            nodes: copy_nodes(alloc, &self.nodes)?,
+        })
+    }
+}
+
 impl BoxNode {
     /// An equal box.
     #[cycle(copies)]
@@ -60,7 +101,7 @@ impl BoxNode {
             depth: self.depth,
             shift: self.shift,
             set: self.set,
-            list: copy_nodes(alloc, &self.list)?,
+            list: self.list.copy(alloc)?,
         })
     }
 }
@@ -80,7 +121,38 @@ impl UnsetBox {
             stretch_order: self.stretch_order,
             shrink: self.shrink,
             shrink_order: self.shrink_order,
-            list: copy_nodes(alloc, &self.list)?,
+            list: self.list.copy(alloc)?,
+        })
+    }
+}
+
+impl Insertion {
+    /// An equal one.
+    #[cycle(copies)]
+    pub fn copy(&self, alloc: Global) -> Result<Insertion, AllocError>
+        ensures { IfOk result (λ copy. copy ≡ self.now) }
+    {
+        Ok(Insertion {
+            class: self.class,
+            height: self.height,
+            depth: self.depth,
+            cost: self.cost,
+            top: self.top,
+            list: self.list.copy(alloc)?,
+        })
+    }
+}
+
+impl Discretionary {
+    /// An equal one.
+    #[cycle(copies)]
+    pub fn copy(&self, alloc: Global) -> Result<Discretionary, AllocError>
+        ensures { IfOk result (λ copy. copy ≡ self.now) }
+    {
+        Ok(Discretionary {
+            pre: self.pre.copy(alloc)?,
+            post: self.post.copy(alloc)?,
+            replaces: self.replaces,
         })
     }
 }
@@ -92,11 +164,10 @@ impl Leader {
         ensures { IfOk result (λ copy. copy ≡ self.now) }
     {
         match self {
-            Leader::Blank => Ok(Leader::Blank),
             Leader::Ruled(size) => Ok(Leader::Ruled(*size)),
             Leader::Boxes { kind, item } => Ok(Leader::Boxes {
                 kind: *kind,
-                item: Boxed::new(alloc, item.get().copy(alloc)?)?,
+                item: item.copy(alloc)?,
             }),
         }
     }
@@ -112,7 +183,7 @@ impl Field {
             Field::Empty => Ok(Field::Empty),
             Field::Symbol(character) => Ok(Field::Symbol(*character)),
             Field::SubBox(it) => Ok(Field::SubBox(Boxed::new(alloc, it.get().copy(alloc)?)?)),
-            Field::SubFormula(list) => Ok(Field::SubFormula(copy_nodes(alloc, list)?)),
+            Field::SubFormula(list) => Ok(Field::SubFormula(list.copy(alloc)?)),
         }
     }
 }
@@ -143,8 +214,8 @@ impl Noad {
                 right,
             } => Ok(Noad::Fraction {
                 thickness: *thickness,
-                numerator: copy_nodes(alloc, numerator)?,
-                denominator: copy_nodes(alloc, denominator)?,
+                numerator: numerator.copy(alloc)?,
+                denominator: denominator.copy(alloc)?,
                 left: *left,
                 right: *right,
             }),
@@ -159,10 +230,10 @@ impl Noad {
                 script,
                 script_script,
             } => Ok(Noad::Choice {
-                display: copy_nodes(alloc, display)?,
-                text: copy_nodes(alloc, text)?,
-                script: copy_nodes(alloc, script)?,
-                script_script: copy_nodes(alloc, script_script)?,
+                display: display.copy(alloc)?,
+                text: text.copy(alloc)?,
+                script: script.copy(alloc)?,
+                script_script: script_script.copy(alloc)?,
             }),
             Noad::MuGlue(glue) => Ok(Noad::MuGlue(*glue)),
             Noad::MuKern(width) => Ok(Noad::MuKern(*width)),
@@ -187,63 +258,35 @@ impl Node {
                 font,
                 code,
                 size,
-                letters,
-                left,
-                right,
+                parts,
             } => Ok(Node::Lig {
                 font: *font,
                 code: *code,
                 size: *size,
-                letters: letters.copy()?,
-                left: *left,
-                right: *right,
+                parts: Boxed::new(alloc, parts.get().copy()?)?,
             }),
             Node::Kern { width, kind } => Ok(Node::Kern {
                 width: *width,
                 kind: *kind,
             }),
-            Node::Glue { glue, leader } => Ok(Node::Glue {
+            Node::Glue(glue) => Ok(Node::Glue(*glue)),
+            Node::Leaders { glue, leader } => Ok(Node::Leaders {
                 glue: *glue,
-                leader: leader.copy(alloc)?,
+                leader: Boxed::new(alloc, leader.get().copy(alloc)?)?,
             }),
             Node::Penalty(penalty) => Ok(Node::Penalty(*penalty)),
             Node::Rule(size) => Ok(Node::Rule(*size)),
-            Node::Box(it) => Ok(Node::Box(it.copy(alloc)?)),
-            Node::Ins {
-                class,
-                height,
-                depth,
-                cost,
-                top,
-                list,
-            } => Ok(Node::Ins {
-                class: *class,
-                height: *height,
-                depth: *depth,
-                cost: *cost,
-                top: *top,
-                list: copy_nodes(alloc, list)?,
-            }),
-            Node::Mark { class, tokens } => Ok(Node::Mark {
-                class: *class,
-                tokens: tokens.copy()?,
-            }),
-            Node::Adjust(list) => Ok(Node::Adjust(copy_nodes(alloc, list)?)),
-            Node::Disc {
-                pre,
-                post,
-                replaces,
-            } => Ok(Node::Disc {
-                pre: copy_nodes(alloc, pre)?,
-                post: copy_nodes(alloc, post)?,
-                replaces: *replaces,
-            }),
-            Node::What(what) => Ok(Node::What(what.copy()?)),
+            Node::Box(it) => Ok(Node::Box(Boxed::new(alloc, it.get().copy(alloc)?)?)),
+            Node::Ins(it) => Ok(Node::Ins(Boxed::new(alloc, it.get().copy(alloc)?)?)),
+            Node::Mark(it) => Ok(Node::Mark(Boxed::new(alloc, it.get().copy()?)?)),
+            Node::Adjust(list) => Ok(Node::Adjust(Boxed::new(alloc, list.get().copy(alloc)?)?)),
+            Node::Disc(it) => Ok(Node::Disc(Boxed::new(alloc, it.get().copy(alloc)?)?)),
+            Node::What(what) => Ok(Node::What(Boxed::new(alloc, what.get().copy()?)?)),
             Node::Math { on, width } => Ok(Node::Math {
                 on: *on,
                 width: *width,
             }),
-            Node::Unset(it) => Ok(Node::Unset(it.copy(alloc)?)),
+            Node::Unset(it) => Ok(Node::Unset(Boxed::new(alloc, it.get().copy(alloc)?)?)),
             Node::Noad(noad) => Ok(Node::Noad(Boxed::new(alloc, noad.get().copy(alloc)?)?)),
         }
     }

@@ -1,7 +1,7 @@
 //! A font: its tables as they stand in a TFM file, with dimensions in sp at the font's size.
 ghost use Rattle.std.specs.Prelude.{◌≡◌, None, Some};
 ghost use Rattle.etx_matter.specs.Fonts.{info_at, has_width};
-ghost use Rattle.etx_matter.specs.Soundness.{IsSound};
+ghost use Rattle.etx_matter.specs.Soundness.{IsSound, IsFont};
 
 use etx_lists::Listed;
 use std::marker::Model;
@@ -118,7 +118,7 @@ pub struct FontInfo {
 }
 
 /// A font: its number, by which the state and DVI files name it, and its tables, whose places and codes all lead to
-/// something.
+/// something. Its sizes are in the range that their fields name, and it has seven parameters at least.
 #[derive(Debug, Drop)]
 pub struct Font {
     number: u8,
@@ -127,19 +127,19 @@ pub struct Font {
 
 impl Model for Font {
     ghost use Rattle.etx_matter.specs.Fonts.{FontState};
-    ghost use Rattle.etx_matter.specs.Soundness.{IsSound};
+    ghost use Rattle.etx_matter.specs.Soundness.{IsFont};
 
     ghost Value = { FontState };
 
     ghost view = { λ it. record { number = it.number; info = it.info } };
 
-    ghost invariant = { λ it. IsSound it.info };
+    ghost invariant = { λ it. IsFont it.info };
 }
 
 impl Font {
     /// A font of these tables.
     pub fn new(number: u8, info: FontInfo) -> Font
-        requires { IsSound info }
+        requires { IsFont info }
         ensures { result ≡ record { number = number; info = info } }
     {
         Font { number, info }
@@ -161,6 +161,7 @@ impl Font {
     pub fn info(&self) -> &FontInfo
         ensures value { result.now ≡ self.now.info }
         ensures sound { IsSound self.now.info }
+        ensures font { IsFont self.now.info }
     {
         &self.info
     }

@@ -17,6 +17,8 @@ mod node;
 #[cfg(test)]
 mod node_tests;
 mod page;
+mod shared;
+mod shared_font;
 mod sizes;
 #[cfg(test)]
 mod tests;
@@ -36,8 +38,13 @@ pub use glue::{Glue, GlueOrder, GlueSet};
 pub use job::{GREATEST_BUDGET, Job};
 pub use math::{AtomKind, Class8, Delim, LimitPlace, MathChar, Side, Style, StyleSize};
 pub use nests::{DEEPEST, nesting};
-pub use node::{BoxNode, Field, KernKind, Leader, LeaderKind, Noad, Noads, Node, Nodes, UnsetBox};
+pub use node::{
+    BoxNode, Discretionary, Field, InnerList, Insertion, KernKind, Leader, LeaderKind, LigParts,
+    Mark, Noad, Node, Nodes, UnsetBox,
+};
 pub use page::{ClassBox, ClassMarks, Fired, LastItem, PageAsk, PageTotal, Quantity, Removal};
+pub use shared::SharedTokens;
+pub use shared_font::{NamedFont, SharedFont};
 pub use sizes::{BoxSize, CharSize, Class, Goal, Limits, Report, ReportKind, RuleSize, Size};
 pub use token::{FROZEN_INACCESSIBLE, NameId, PAR, Token, Tokens};
 pub use whats::What;

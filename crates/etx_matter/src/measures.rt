@@ -1,7 +1,8 @@
 //! What one node is, without what stands in it.
 ghost use Rattle.std.specs.Prelude.{◌≡◌};
-ghost use Rattle.etx_matter.specs.Sizes.{width_of, height_of, depth_of, is_discardable as goes_after_a_break, type_number as number_of_type};
+ghost use Rattle.etx_matter.specs.Sizes.{width_of, height_of, depth_of, glue_of, is_discardable as goes_after_a_break, type_number as number_of_type};
 
+use crate::glue::Glue;
 use crate::node::{Noad, Node};
 
 impl Node {
@@ -14,10 +15,10 @@ impl Node {
         match self {
             Node::Char { size, .. } | Node::Lig { size, .. } => size.width,
             Node::Kern { width, .. } | Node::Math { width, .. } => *width,
-            Node::Glue { glue, .. } => glue.width,
+            Node::Glue(glue) | Node::Leaders { glue, .. } => glue.width,
             Node::Rule(size) => size.width.unwrap_or(0),
-            Node::Box(it) => it.width,
-            Node::Unset(it) => it.width,
+            Node::Box(it) => it.get().width,
+            Node::Unset(it) => it.get().width,
             _ => 0,
         }
     }
@@ -31,8 +32,8 @@ impl Node {
         match self {
             Node::Char { size, .. } | Node::Lig { size, .. } => size.height,
             Node::Rule(size) => size.height.unwrap_or(0),
-            Node::Box(it) => it.height,
-            Node::Unset(it) => it.height,
+            Node::Box(it) => it.get().height,
+            Node::Unset(it) => it.get().height,
             _ => 0,
         }
     }
@@ -46,9 +47,20 @@ impl Node {
         match self {
             Node::Char { size, .. } | Node::Lig { size, .. } => size.depth,
             Node::Rule(size) => size.depth.unwrap_or(0),
-            Node::Box(it) => it.depth,
-            Node::Unset(it) => it.depth,
+            Node::Box(it) => it.get().depth,
+            Node::Unset(it) => it.get().depth,
             _ => 0,
+        }
+    }
+
+    /// Its glue, where it is glue, with leaders or without.
+    #[tactic(auto, unfolding(crate::specs::Sizes::glue_of))]
+    pub fn glue(&self) -> Option<Glue>
+        ensures { result ≡ glue_of self.now }
+    {
+        match self {
+            Node::Glue(glue) | Node::Leaders { glue, .. } => Some(*glue),
+            _ => None,
         }
     }
 
@@ -60,7 +72,11 @@ impl Node {
     {
         matches!(
             self,
-            Node::Glue { .. } | Node::Kern { .. } | Node::Penalty(_) | Node::Math { .. }
+            Node::Glue(_)
+                | Node::Leaders { .. }
+                | Node::Kern { .. }
+                | Node::Penalty(_)
+                | Node::Math { .. }
         )
     }
 
@@ -72,17 +88,17 @@ impl Node {
     {
         match self {
             Node::Char { .. } => 0,
-            Node::Box(it) if it.vertical => 2,
+            Node::Box(it) if it.get().vertical => 2,
             Node::Box(_) => 1,
             Node::Rule(_) => 3,
-            Node::Ins { .. } => 4,
-            Node::Mark { .. } => 5,
+            Node::Ins(_) => 4,
+            Node::Mark(_) => 5,
             Node::Adjust(_) => 6,
             Node::Lig { .. } => 7,
-            Node::Disc { .. } => 8,
+            Node::Disc(_) => 8,
             Node::What(_) => 9,
             Node::Math { .. } => 10,
-            Node::Glue { .. } => 11,
+            Node::Glue(_) | Node::Leaders { .. } => 11,
             Node::Kern { .. } => 12,
             Node::Penalty(_) => 13,
             Node::Unset(_) => 14,

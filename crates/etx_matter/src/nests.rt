@@ -1,29 +1,23 @@
 //! How deep lists stand in nodes.
-#![tactic(auto, unfolding(crate::specs::Nests::list_nesting, crate::specs::Nests::node_nesting, crate::specs::Nests::box_nesting, crate::specs::Nests::unset_nesting, crate::specs::Nests::leader_nesting, crate::specs::Nests::noad_nesting, crate::specs::Nests::field_nesting))]
+//!
+//! Each list in a node carries its nesting. That it is the right one, at every level, is what `IsNested` says of a node;
+//! it is kept where lists are taken into nodes by [`InnerList::new`] alone.
+#![tactic(auto, unfolding(crate::specs::Nests::list_nesting, crate::specs::Nests::node_nesting, crate::specs::Nests::box_nesting, crate::specs::Nests::list_depth, crate::specs::Nests::node_depth, crate::specs::Nests::box_depth, crate::specs::Nests::leader_depth, crate::specs::Nests::noad_depth, crate::specs::Nests::field_depth, crate::specs::Nests::inner_depth, crate::specs::Nests::IsNested, crate::specs::Nests::AreNested, crate::specs::Nests::IsNestedBox, crate::specs::Nests::IsNestedInner))]
 
 ghost use Rattle.std.specs.Prelude.{◌≡◌, ◌≤◌, ◌+◌, min};
-ghost use Rattle.etx_matter.specs.Nests.{list_nesting, node_nesting as nesting_of_node, box_nesting as nesting_of_box, unset_nesting as nesting_of_unset, leader_nesting as nesting_of_leader, noad_nesting as nesting_of_noad, field_nesting as nesting_of_field};
+ghost use Rattle.etx_matter.specs.Nests.{list_nesting, node_nesting as nesting_of_node, box_nesting as nesting_of_box, leader_depth, noad_depth, field_depth, inner_depth, IsNested, AreNested, IsNestedBox, IsNestedInner};
 
-use crate::node::{BoxNode, Field, Leader, Noad, Node, Nodes, UnsetBox};
+use crate::node::{BoxNode, Field, InnerList, Leader, Noad, Node, Nodes};
 
 /// The greatest nesting that is told apart: 2^30. A list that is nested deeper has no place in any memory.
 pub const DEEPEST: u32 = 1_073_741_824;
 
-fn deeper(nesting: u32) -> u32
-    requires { nesting ≤ 1073741824 }
-    ensures { result ≡ min (nesting + 1) 1073741824 }
-{
-    if nesting < DEEPEST {
-        nesting + 1
-    } else {
-        DEEPEST
-    }
-}
-
 /// How deep lists stand in the items of this one: 0 where no item holds a list, and else one more than the nesting of
 /// the deepest of the lists that an item holds. From [`DEEPEST`] on the answer is [`DEEPEST`].
-#[cycle(nesting)]
+///
+/// It looks at the items alone, and not at what stands in them.
 pub fn nesting(list: &Nodes) -> u32
+    requires { AreNested list.now }
     ensures { result ≡ min (list_nesting list.now) 1073741824 }
 {
     let mut most = 0;
@@ -33,54 +27,69 @@ pub fn nesting(list: &Nodes) -> u32
     most
 }
 
-impl BoxNode {
-    /// One more than the nesting of its list.
-    #[cycle(nesting)]
-    pub fn nesting(&self) -> u32
-        ensures { result ≡ min (nesting_of_box self.now) 1073741824 }
+impl InnerList {
+    /// Takes a list into a node. Looks at the items alone, and takes no memory.
+    pub fn new(nodes: Nodes) -> InnerList
+        requires { AreNested nodes }
+        ensures value { result ≡ record { nesting = min (list_nesting nodes) 1073741824; nodes = nodes } }
+        ensures nested { IsNestedInner result }
     {
-        deeper(nesting(&self.list))
+        let nesting = nesting(&nodes);
+        InnerList { nesting, nodes }
+    }
+
+    /// One more than its nesting. From [`DEEPEST`] on the answer is [`DEEPEST`].
+    pub fn around(&self) -> u32
+        requires { IsNestedInner self.now }
+        ensures { result ≡ min (inner_depth self.now).levels 1073741824 }
+    {
+        if self.nesting < DEEPEST {
+            self.nesting + 1
+        } else {
+            DEEPEST
+        }
     }
 }
 
-impl UnsetBox {
-    #[cycle(nesting)]
-    fn nesting(&self) -> u32
-        ensures { result ≡ min (nesting_of_unset self.now) 1073741824 }
+impl BoxNode {
+    /// One more than the nesting of its list. From [`DEEPEST`] on the answer is [`DEEPEST`].
+    pub fn nesting(&self) -> u32
+        requires { IsNestedBox self.now }
+        ensures { result ≡ min (nesting_of_box self.now) 1073741824 }
     {
-        deeper(nesting(&self.list))
+        self.list.around()
     }
 }
 
 impl Leader {
-    #[cycle(nesting)]
     fn nesting(&self) -> u32
-        ensures { result ≡ min (nesting_of_leader self.now) 1073741824 }
+        requires { (leader_depth self.now).wrong ≡ 0 }
+        ensures { result ≡ min (leader_depth self.now).levels 1073741824 }
     {
         match self {
-            Leader::Blank | Leader::Ruled(_) => 0,
-            Leader::Boxes { item, .. } => item.get().nesting(),
+            Leader::Ruled(_) => 0,
+            Leader::Boxes { item, .. } => item.nesting(),
         }
     }
 }
 
 impl Field {
-    #[cycle(nesting)]
     fn nesting(&self) -> u32
-        ensures { result ≡ min (nesting_of_field self.now) 1073741824 }
+        requires { (field_depth self.now).wrong ≡ 0 }
+        ensures { result ≡ min (field_depth self.now).levels 1073741824 }
     {
         match self {
             Field::Empty | Field::Symbol(_) => 0,
             Field::SubBox(it) => it.get().nesting(),
-            Field::SubFormula(list) => deeper(nesting(list)),
+            Field::SubFormula(list) => list.around(),
         }
     }
 }
 
 impl Noad {
-    #[cycle(nesting)]
     fn nesting(&self) -> u32
-        ensures { result ≡ min (nesting_of_noad self.now) 1073741824 }
+        requires { (noad_depth self.now).wrong ≡ 0 }
+        ensures { result ≡ min (noad_depth self.now).levels 1073741824 }
     {
         match self {
             Noad::Atom {
@@ -96,18 +105,17 @@ impl Noad {
                 numerator,
                 denominator,
                 ..
-            } => deeper(nesting(numerator).max(nesting(denominator))),
+            } => numerator.around().max(denominator.around()),
             Noad::Choice {
                 display,
                 text,
                 script,
                 script_script,
-            } => deeper(
-                nesting(display)
-                    .max(nesting(text))
-                    .max(nesting(script))
-                    .max(nesting(script_script)),
-            ),
+            } => display
+                .around()
+                .max(text.around())
+                .max(script.around())
+                .max(script_script.around()),
             _ => 0,
         }
     }
@@ -116,16 +124,17 @@ impl Noad {
 impl Node {
     /// The nesting of the deepest list that it holds, and one more; 0 where it holds none. From [`DEEPEST`] on the
     /// answer is [`DEEPEST`].
-    #[cycle(nesting)]
     pub fn nesting(&self) -> u32
+        requires { IsNested self.now }
         ensures { result ≡ min (nesting_of_node self.now) 1073741824 }
     {
         match self {
-            Node::Box(it) => it.nesting(),
-            Node::Unset(it) => it.nesting(),
-            Node::Ins { list, .. } | Node::Adjust(list) => deeper(nesting(list)),
-            Node::Disc { pre, post, .. } => deeper(nesting(pre).max(nesting(post))),
-            Node::Glue { leader, .. } => leader.nesting(),
+            Node::Box(it) => it.get().nesting(),
+            Node::Unset(it) => it.get().list.around(),
+            Node::Ins(it) => it.get().list.around(),
+            Node::Adjust(list) => list.get().around(),
+            Node::Disc(it) => it.get().pre.around().max(it.get().post.around()),
+            Node::Leaders { leader, .. } => leader.get().nesting(),
             Node::Noad(noad) => noad.get().nesting(),
             _ => 0,
         }

@@ -1,10 +1,16 @@
 //! Nodes and lists of them, with ample memory.
+#![tactic(auto, unfolding(crate::specs::Nests::IsNested, crate::specs::Nests::AreNested, crate::specs::Nests::IsNestedBox, crate::specs::Nests::IsNestedInner, crate::specs::Nests::list_depth, crate::specs::Nests::node_depth, crate::specs::Nests::box_depth, crate::specs::Nests::inner_depth))]
+
+ghost use Rattle.std.specs.Prelude.{IfOk};
+ghost use Rattle.etx_matter.specs.Nests.{IsNested, AreNested, IsNestedBox};
+
 use crate::{
-    AtomKind, BoxNode, Boxed, Field, Glue, GlueOrder, GlueSet, Leader, LeaderKind, LimitPlace,
-    MathChar, Noad, Node, Nodes, RuleSize, What, copy_nodes, nesting,
+    AtomKind, BoxNode, Boxed, Field, Glue, GlueOrder, GlueSet, InnerList, Leader, LeaderKind,
+    LimitPlace, MathChar, Noad, Node, Nodes, RuleSize, What, copy_nodes, nesting,
 };
 use etx_lists::Bytes;
 use std::alloc::{AllocError, Global};
+use std::mem::size_of;
 use std::test::Fail;
 
 fn is_penalty(node: Option<&Node>, wanted: i32) -> bool {
@@ -14,7 +20,10 @@ fn is_penalty(node: Option<&Node>, wanted: i32) -> bool {
     }
 }
 
-fn boxed(vertical: bool, list: Nodes) -> BoxNode {
+fn boxed(vertical: bool, list: Nodes) -> BoxNode
+    requires { AreNested list }
+    ensures { IsNestedBox result }
+{
     BoxNode {
         vertical,
         width: 1,
@@ -22,19 +31,36 @@ fn boxed(vertical: bool, list: Nodes) -> BoxNode {
         depth: 3,
         shift: 4,
         set: GlueSet::new(true, GlueOrder::Fill, -5, 6),
-        list,
+        list: InnerList::new(list),
     }
 }
 
+fn box_of(alloc: Global, vertical: bool, list: Nodes) -> Result<Node, AllocError>
+    requires { AreNested list }
+    ensures { IfOk result (λ it. IsNested it) }
+{
+    Ok(Node::Box(Boxed::new(alloc, boxed(vertical, list))?))
+}
+
+fn around(alloc: Global, list: Nodes) -> Result<Nodes, AllocError>
+    requires { AreNested list }
+    ensures { IfOk result (λ outer. AreNested outer) }
+{
+    let inner = box_of(alloc, false, list)?;
+    let mut outer = Nodes::new(alloc);
+    outer.push(Node::Penalty(1))?;
+    outer.push(inner)?;
+    outer.push(Node::Penalty(2))?;
+    Ok(outer)
+}
+
 /// A list with one box, in which stands one box, and so on.
-fn nested(alloc: Global, times: u32) -> Result<Nodes, AllocError> {
+fn nested(alloc: Global, times: u32) -> Result<Nodes, AllocError>
+    ensures { IfOk result (λ list. AreNested list) }
+{
     let mut list = Nodes::new(alloc);
     for _ in 0..times {
-        let mut outer = Nodes::new(alloc);
-        outer.push(Node::Penalty(1))?;
-        outer.push(Node::Box(boxed(false, list)))?;
-        outer.push(Node::Penalty(2))?;
-        list = outer;
+        list = around(alloc, list)?;
     }
     Ok(list)
 }
@@ -68,19 +94,29 @@ fn boxes_400_deep_are_measured_and_copied(rt: HostRuntime) -> Result<(), Fail> {
 fn set_is_kept(node: &Node) -> bool {
     match node {
         Node::Box(it) => {
-            it.set.is_stretching()
-                && it.set.order() == GlueOrder::Fill
-                && it.set.num() == -5
-                && it.set.den() == 6
+            let set = it.get().set;
+            set.is_stretching()
+                && set.order() == GlueOrder::Fill
+                && set.num() == -5
+                && set.den() == 6
         }
         _ => false,
     }
 }
 
+/// A list is built of so many, and moved as often.
+const BYTES_OF_A_NODE: usize = 32;
+
+#[test]
+fn a_node_is_small(rt: HostRuntime) -> Result<(), Fail> {
+    assert!(rt; size_of::<Node>() == BYTES_OF_A_NODE);
+    Ok(())
+}
+
 #[test]
 fn a_box_has_its_sizes_and_its_copy_too(rt: HostRuntime) -> Result<(), Fail> {
     let alloc = rt.alloc();
-    let node = Node::Box(boxed(true, Nodes::new(alloc))).copy(alloc)?;
+    let node = box_of(alloc, true, Nodes::new(alloc))?.copy(alloc)?;
     assert!(rt; node.width() == 1 && node.height() == 2 && node.depth() == 3);
     assert!(rt; set_is_kept(&node) && node.type_number() == 2 && !node.is_discardable());
     assert!(rt; node.nesting() == 1);
@@ -107,19 +143,22 @@ fn atom(alloc: Global) -> Result<Node, AllocError> {
             code: 97,
         }),
         superscript: Field::SubBox(Boxed::new(alloc, boxed(false, Nodes::new(alloc)))?),
-        subscript: Field::SubFormula(Nodes::new(alloc)),
+        subscript: Field::SubFormula(InnerList::new(Nodes::new(alloc))),
     };
     Ok(Node::Noad(Boxed::new(alloc, noad)?))
 }
 
 fn special(alloc: Global) -> Result<Node, AllocError> {
     let text = Bytes::from_slice(alloc, b"ink")?;
-    Ok(Node::What(What::Special(text)))
+    Ok(Node::What(Boxed::new(alloc, What::Special(text))?))
 }
 
 /// Glue of a leader's boxes.
 fn dots(alloc: Global) -> Result<Node, AllocError> {
-    let item = Boxed::new(alloc, boxed(false, Nodes::new(alloc)))?;
+    let leader = Leader::Boxes {
+        kind: LeaderKind::Centered,
+        item: boxed(false, Nodes::new(alloc)),
+    };
     let glue = Glue {
         width: 9,
         stretch: 1,
@@ -127,21 +166,20 @@ fn dots(alloc: Global) -> Result<Node, AllocError> {
         stretch_order: GlueOrder::Filll,
         shrink_order: GlueOrder::Normal,
     };
-    Ok(Node::Glue {
+    Ok(Node::Leaders {
         glue,
-        leader: Leader::Boxes {
-            kind: LeaderKind::Centered,
-            item,
-        },
+        leader: Boxed::new(alloc, leader)?,
     })
 }
 
 fn is_dots(node: &Node) -> bool {
     match node {
-        Node::Glue {
-            glue,
-            leader: Leader::Boxes { item, .. },
-        } => { glue.stretch_order == GlueOrder::Filll && item.get().shift == 4 }
+        Node::Leaders { glue, leader } => match leader.get() {
+            Leader::Boxes { item, .. } => {
+                glue.stretch_order == GlueOrder::Filll && item.shift == 4
+            }
+            Leader::Ruled(_) => false,
+        },
         _ => false,
     }
 }
@@ -153,7 +191,7 @@ fn is_atom(node: &Node) -> bool {
                 superscript: Field::SubBox(it),
                 subscript: Field::SubFormula(list),
                 ..
-            } => { it.get().height == 2 && list.is_empty() }
+            } => { it.get().height == 2 && list.nodes.is_empty() }
             _ => false,
         },
         _ => false,
@@ -162,7 +200,10 @@ fn is_atom(node: &Node) -> bool {
 
 fn is_ink(node: &Node) -> bool {
     match node {
-        Node::What(What::Special(text)) => text.as_slice() == b"ink".as_slice(),
+        Node::What(what) => match what.get() {
+            What::Special(text) => text.as_slice() == b"ink".as_slice(),
+            _ => false,
+        },
         _ => false,
     }
 }

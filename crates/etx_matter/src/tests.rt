@@ -1,5 +1,6 @@
 //! Lists, tokens and jobs, once each with ample memory.
-use crate::{Bytes, Job, Listed, NameId, PAR, Token, Tokens};
+use crate::{Boxed, Bytes, Job, Listed, NameId, PAR, SharedTokens, Token, Tokens};
+use etx_lists::Queue;
 use std::test::Fail;
 
 #[test]
@@ -19,6 +20,38 @@ fn lists_grow_and_are_cut(rt: HostRuntime) -> Result<(), Fail> {
     assert!(rt; copy.at(4).is_none());
     let items = copy.into_vec();
     assert!(rt; Bytes::from_vec(items)?.pop() == Some(4));
+    Ok(())
+}
+
+#[test]
+fn lists_are_taken_from_at_the_front(rt: HostRuntime) -> Result<(), Fail> {
+    let alloc = rt.alloc();
+    let mut list: Listed<u8> = Listed::with_room(alloc, 4)?;
+    list.append(Bytes::from_slice(alloc, &[1, 2, 3, 4])?)?;
+    list.reserve(1)?;
+    list.push(5)?;
+    let mut queue = Queue::new(list);
+    assert!(rt; queue.pop() == Some(1));
+    let front = queue.take(alloc, queue.len().min(2))?;
+    assert!(rt; front.as_slice() == [2, 3].as_slice());
+    assert!(rt; queue.len() == 2 && !queue.is_empty());
+    let mut seen = Bytes::new(alloc);
+    for item in front {
+        seen.push(item)?;
+    }
+    assert!(rt; seen.as_slice() == [2, 3].as_slice());
+    Ok(())
+}
+
+#[test]
+fn what_is_shared_or_boxed_is_seen(rt: HostRuntime) -> Result<(), Fail> {
+    let alloc = rt.alloc();
+    let shared = SharedTokens::new(alloc, Tokens::from_slice(alloc, &[Token::Param(1)])?)?;
+    let again = shared.share()?;
+    assert!(rt; again.as_slice().len() == 1);
+    let mut boxed = Boxed::new(alloc, 1u8)?;
+    *boxed.get_mut() = 2;
+    assert!(rt; boxed.into_inner() == 2);
     Ok(())
 }
 

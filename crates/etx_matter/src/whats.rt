@@ -1,5 +1,5 @@
 //! Whatsits ("TeX: The Program", section 1341).
-use crate::token::Tokens;
+use crate::shared::SharedTokens;
 use etx_lists::Bytes;
 
 /// What is done when a page is shipped, or in a paragraph's hyphenation.
@@ -9,7 +9,7 @@ pub enum What {
     OpenFile { stream: i32, name: Bytes },
     /// `\write`: these tokens are expanded and written. A stream below 0 is the log alone, and one above 15, or one that
     /// isn't open, the log and the terminal.
-    Write { stream: i32, tokens: Tokens },
+    Write { stream: i32, tokens: SharedTokens },
     /// `\closeout`.
     CloseFile { stream: i32 },
     /// `\special`: these bytes go into the DVI file.

@@ -4,8 +4,9 @@ use Rattle.std.specs.Prelude.{⊤, IsErrOf}
 use Rattle.std.proofs.lemmas.Result.{on_ok_weaker}
 use Rattle.etx_outside.specs.declared.tree.TreeFault.{TreeFault}
 use Rattle.etx_outside.specs.declared.tree.TreeFault.TheVariants.{Failed, OutOfMemory}
+use Rattle.etx_outside.specs.Faults.{Counts}
 use Rattle.etx_outside.specs.Entries.{Files, put, files_after, bytes_to}
-use Rattle.etx_outside.specs.Memory.{TreeState, file_at, with_file, with_more, is_failing, half, tree_written, with_write_fault}
+use Rattle.etx_outside.specs.Memory.{FileMap, TreeState, file_at, with_file, with_more, is_failing, half, tree_written, with_write_fault}
 use Rattle.etx_outside.proofs.Put.{put_keeps, put_same, files_after_keeps}
 use Rattle.etx_outside.proofs.FileMaps.{file_at-with_file, file_at-with_more}
 
@@ -30,6 +31,13 @@ Listed t = is_failing t.failing t.calls ≡ true
 
 abbrev Unlisted : TreeState → Type 0
 Unlisted t = is_failing t.failing t.calls ≡ false
+
+abbrev counts : TreeState → Counts
+counts t = record { reads = t.read_faults; writes = t.write_faults }
+
+-- what is written counts no fault
+pub counts_stay : (old new : TreeState) (files : FileMap) (r : Answer) → OnOk r (Unlisted old × (new ≡ tree_written files old)) → OnOk r (⊤ → counts new ≡ counts old)
+counts_stay old new files r ok = on_ok_weaker r (λ h _. ap counts h.1) ok
 
 module _ (old new : TreeState) (name : List ℕ) where
   now_put : new ≡ tree_written (with_file name [] old.files) old → file_at new.files ≡ put name [] (file_at old.files)

@@ -179,6 +179,8 @@ impl Tree for MemTree {
 
     ghost faults = { λ t. record { reads = t.read_faults; writes = t.write_faults } };
 
+    ghost counts_only_faults = { ⊤ };
+
     fn load(&mut self, alloc: Global, name: &[u8]) -> Result<Loaded, TreeFault>
         ensures loaded { IfOk result (λ loaded. (is_failing self.old.failing self.old.calls ≡ false)
             × (loaded ≡ load_of (file_at self.old.files name.now)) × (self.new ≡ tree_asked name.now self.old)) }

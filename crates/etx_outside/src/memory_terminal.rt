@@ -67,6 +67,8 @@ impl Terminal for MemTerminal {
 
     ghost faults = { λ t. t.faults };
 
+    ghost counts_only_faults = { ⊤ };
+
     /// Says all of the bytes, or the first half of them, rounded down, where the number of the call is listed.
     fn say(&mut self, _alloc: Global, bytes: &[u8]) -> Result<(), TermFault>
         ensures said { OnOk result ((is_failing self.old.failing self.old.calls ≡ false) × (self.new ≡ terminal_shown bytes.now self.old)) }

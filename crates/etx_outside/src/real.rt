@@ -133,6 +133,8 @@ impl<R: Files + Drop> Tree for RealTree<R> {
 
     ghost faults = { λ t. t };
 
+    ghost counts_only_faults = { ⊤ };
+
     fn load(&mut self, alloc: Global, name: &[u8]) -> Result<Loaded, TreeFault>
         ensures ok { OnOk result (self.new ≡ self.old) }
         ensures err { OnErr result (self.new ≡ record self.old { reads = next self.old.reads }) }
@@ -213,6 +215,8 @@ impl<R: Print + Drop> Terminal for RealTerminal<R> {
     ghost text = { λ _. [] };
 
     ghost faults = { λ t. t };
+
+    ghost counts_only_faults = { ⊤ };
 
     fn say(&mut self, _alloc: Global, bytes: &[u8]) -> Result<(), TermFault>
         ensures ok { OnOk result (self.new ≡ self.old) }

@@ -37,14 +37,19 @@ pub trait Terminal {
     /// How often it failed.
     ghost faults: { Self → ℕ };
 
+    /// Holds for a type of terminals whose count stays where a call answers `Ok`.
+    ghost counts_only_faults: { Type 0 };
+
     /// Says these bytes.
     ///
     /// - `ok`, `err`: all of the bytes are said; after an `Err`, so many of the first.
     /// - `later`: the count of faults does not fall.
+    /// - `steady`: where it answers `Ok`, the count stays.
     /// - `cause`: it fails only where the count of faults rose.
     fn say(&mut self, alloc: Global, bytes: &[u8]) -> Result<(), TermFault>
         ensures ok { OnOk result (tells → text self.new ≡ text self.old ++ bytes.now) }
         ensures err { OnErr result (tells → (n : ℕ) × (text self.new ≡ text self.old ++ take n bytes.now)) }
         ensures later { faults self.old ≤ faults self.new }
+        ensures steady { OnOk result (counts_only_faults → faults self.new ≡ faults self.old) }
         ensures cause { IsErrOf result TermFault.Failed → Rose (faults self.old) (faults self.new) };
 }

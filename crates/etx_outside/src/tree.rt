@@ -68,6 +68,9 @@ pub trait Tree {
     /// How often it failed to read, and to write.
     ghost faults: { Self → Counts };
 
+    /// Holds for a type of trees whose counts stay where a call answers `Ok`.
+    ghost counts_only_faults: { Type 0 };
+
     /// Reads the file of this name.
     ///
     /// - `answer`: it is absent exactly where the name has no file, and too long exactly where the file has more than
@@ -77,6 +80,7 @@ pub trait Tree {
     /// - `asked_err`: only for want of memory may those names stay as they were.
     /// - `open`: what could be appended to still can.
     /// - `later`: no count of faults falls.
+    /// - `steady`: where it answers `Ok`, no count rises.
     /// - `cause`: it fails only where the count of faults of reading rose.
     fn load(&mut self, alloc: Global, name: &[u8]) -> Result<Loaded, TreeFault>
         ensures answer { IfOk result (λ loaded. tells → loaded ≡ load_of (files self.old name.now)) }
@@ -86,6 +90,7 @@ pub trait Tree {
         ensures asked_err { OnErr result (tells → (asked self.new ≡ asked self.old) ⊎ (asked self.new ≡ asked self.old ++ name.now ∷ [])) }
         ensures open { (q : List ℕ) → is_open self.old q → is_open self.new q }
         ensures later { Later (faults self.old) (faults self.new) }
+        ensures steady { OnOk result (counts_only_faults → faults self.new ≡ faults self.old) }
         ensures cause { IsErrOf result TreeFault.Failed → Rose (faults self.old).reads (faults self.new).reads };
 
     /// Makes an empty file of this name, in place of one that is there.
@@ -94,6 +99,7 @@ pub trait Tree {
     /// - `asked`: the names asked for stay as they were.
     /// - `opened`, `open`: this name, and what could be appended to before, can be appended to.
     /// - `later`: no count of faults falls.
+    /// - `steady`: where it answers `Ok`, no count rises.
     /// - `cause`: it fails only where the count of faults of writing rose.
     fn create(&mut self, alloc: Global, name: &[u8]) -> Result<(), TreeFault>
         ensures ok { OnOk result (tells → files self.new ≡ files_after (Made name.now ∷ []) (files self.old)) }
@@ -102,6 +108,7 @@ pub trait Tree {
         ensures opened { OnOk result (is_open self.new name.now) }
         ensures open { (q : List ℕ) → is_open self.old q → is_open self.new q }
         ensures later { Later (faults self.old) (faults self.new) }
+        ensures steady { OnOk result (counts_only_faults → faults self.new ≡ faults self.old) }
         ensures cause { IsErrOf result TreeFault.Failed → Rose (faults self.old).writes (faults self.new).writes };
 
     /// Adds bytes at the end of the file of this name, which has to be one that may be appended to.
@@ -110,6 +117,7 @@ pub trait Tree {
     /// - `asked`: the names asked for stay as they were.
     /// - `open`: what could be appended to still can.
     /// - `later`: no count of faults falls.
+    /// - `steady`: where it answers `Ok`, no count rises.
     /// - `cause`: it fails only where the count of faults of writing rose.
     fn append(&mut self, alloc: Global, name: &[u8], bytes: &[u8]) -> Result<(), TreeFault>
         requires { is_open self.old name.now }
@@ -118,5 +126,6 @@ pub trait Tree {
         ensures asked { tells → asked self.new ≡ asked self.old }
         ensures open { (q : List ℕ) → is_open self.old q → is_open self.new q }
         ensures later { Later (faults self.old) (faults self.new) }
+        ensures steady { OnOk result (counts_only_faults → faults self.new ≡ faults self.old) }
         ensures cause { IsErrOf result TreeFault.Failed → Rose (faults self.old).writes (faults self.new).writes };
 }

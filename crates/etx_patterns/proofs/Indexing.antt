@@ -139,6 +139,20 @@ Indexes-added tree keys counts path node counted only lengths unknown t =
     some_same : (i j : ℕ) → Some i ≡ Some j → i ≡ j
     some_same i j e = cc
 
+-- A key that counted, of which it doesn't matter any more whether it does.
+pub Indexes-recounted : (tree : Tree) (keys : List (List Mark)) (counts : List Bool) (i : ℕ) (counted : Bool) → counts_at counts i ≡ true → Indexes tree keys counts → Indexes tree keys (set counts i counted)
+Indexes-recounted tree keys counts i counted was t =
+    record {
+      sizes = t.sizes;
+      entry_key = t.entry_key;
+      key_entry = λ node j low j_low e counts_j.
+          elim (cases_eq j i) [
+            | inl here ↦ t.key_entry node j low j_low e (ap (counts_at counts) here ∙ was)
+            | inr other ↦ t.key_entry node j low j_low e (sym (get_or-set_other counts i j counted false other) ∙ counts_j)
+          ];
+      key_path = t.key_path;
+    }
+
 pub word_marks-injective : (xs ys : List ℕ) → word_marks xs ≡ word_marks ys → xs ≡ ys
 word_marks-injective [] [] e = refl
 word_marks-injective [] (y ∷ ys) e = cc

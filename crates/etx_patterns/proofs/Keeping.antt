@@ -1,38 +1,27 @@
 -- The tries keep standing for the tables.
-use Rattle.std.proofs.Common.{◌≡◌, ℕ, ◌+◌, ◌<◌, ◌≤◌, Bool, true, false, List, [], ◌∷◌, ◌++◌, None, refl, ap, sym, ◌∙◌, subst, length, set, map, arith}
+use Rattle.std.proofs.Common.{◌≡◌, ℕ, zero, suc, ◌+◌, ◌<◌, ◌≤◌, Bool, true, false, List, [], ◌∷◌, ◌++◌, None, refl, ap, sym, ◌∙◌, subst, length, set, map, arith}
 use Rattle.std.proofs.lemmas.List.{length-map, map_push, length_push, length-set}
-use Rattle.std.proofs.Math.Seq.{map-set_same}
+use Rattle.std.proofs.Math.Seq.{map-set, map-set_same}
 use Rattle.etx_patterns.specs.declared.step.Mark.{Mark}
+use Rattle.etx_patterns.specs.declared.step.Mark.TheVariants.{Language, Character, Boundary}
 use Rattle.etx_patterns.specs.declared.step.Step.{Step}
+use Rattle.etx_patterns.specs.declared.step.Step.TheVariants.{Letter, Digit, Edge}
 use Rattle.etx_patterns.specs.declared.tables.Pattern.{Pattern}
 use Rattle.etx_patterns.specs.declared.tables.Exception.{Exception}
 use Rattle.etx_patterns.specs.Shapes.{shape, path_in, letter_count, word_marks}
-use Rattle.etx_patterns.specs.Tables.{pattern_path, exception_path, exception_of, exception_at, is_known, all_letters, new_pattern, new_exception, IsException, put}
+use Rattle.etx_patterns.specs.Tables.{pattern_path, exception_path, exception_of, exception_at, is_known, all_letters, new_pattern, new_exception, IsException, put, pattern_at, IsKnownAt}
 use Rattle.etx_patterns.specs.Tree.{Tree, IsOnly, Grows}
-use Rattle.etx_patterns.specs.Kept.{Indexes, PatternsIndexed, ExceptionsIndexed, digit_counts, always, IsKept}
-use Rattle.etx_patterns.proofs.Indexing.{Indexes-grown, Indexes-added, noted, word_marks-injective}
+use Rattle.etx_patterns.specs.Kept.{Indexes, PatternsIndexed, ExceptionsIndexed, digit_counts, counts_at, always, PatternsKept, ExceptionsKept}
+use Rattle.etx_patterns.proofs.Indexing.{Indexes-grown, Indexes-added, Indexes-recounted, noted, word_marks-injective}
 use Rattle.etx_patterns.proofs.Scoring.{pattern_key, pattern_counts, first_same, rest_same}
 use Rattle.etx_patterns.proofs.Lookups.{none_known, no_such_path, exception_key, put-found}
 
-pub kept_patterns_grown : (tree new etree : Tree) (patterns : List Pattern) (exceptions : List Exception) (letters : ℕ) → IsKept tree etree patterns exceptions letters → Grows tree new → IsKept new etree patterns exceptions letters
-kept_patterns_grown tree new etree patterns exceptions letters k g =
-    record {
-      patterns_indexed = Indexes-grown tree new _ _ g k.patterns_indexed;
-      exceptions_indexed = k.exceptions_indexed;
-      letters_are = k.letters_are;
-      letters_few = k.letters_few;
-      exceptions_few = k.exceptions_few;
-    }
+pub patterns_grown : (tree new : Tree) (patterns : List Pattern) (letters : ℕ) → PatternsKept tree patterns letters → Grows tree new → PatternsKept new patterns letters
+patterns_grown tree new patterns letters k g =
+    record { indexed = Indexes-grown tree new _ _ g k.indexed; letters_are = k.letters_are; letters_few = k.letters_few }
 
-pub kept_exceptions_grown : (tree etree new : Tree) (patterns : List Pattern) (exceptions : List Exception) (letters : ℕ) → IsKept tree etree patterns exceptions letters → Grows etree new → IsKept tree new patterns exceptions letters
-kept_exceptions_grown tree etree new patterns exceptions letters k g =
-    record {
-      patterns_indexed = k.patterns_indexed;
-      exceptions_indexed = Indexes-grown etree new _ _ g k.exceptions_indexed;
-      letters_are = k.letters_are;
-      letters_few = k.letters_few;
-      exceptions_few = k.exceptions_few;
-    }
+pub exceptions_grown : (tree new : Tree) (exceptions : List Exception) → ExceptionsKept tree exceptions → Grows tree new → ExceptionsKept new exceptions
+exceptions_grown tree new exceptions k g = record { indexed = Indexes-grown tree new _ _ g k.indexed; few = k.few }
 
 all_letters-push : (patterns : List Pattern) (pattern : Pattern) → all_letters (patterns ++ pattern ∷ []) ≡ all_letters patterns + letter_count pattern.steps
 all_letters-push [] pattern = omega arith
@@ -58,30 +47,71 @@ patterns_added new patterns pattern path at t only path_is none =
     let counts : map digit_counts patterns ++ digit_counts pattern ∷ [] ≡ map digit_counts (patterns ++ pattern ∷ []) = sym (map_push digit_counts patterns pattern) in
     indexes_along _ _ _ _ _ _ (ap (noted new at) lengths) keys counts added
 
-pub kept_pattern_added : (tree new newer etree : Tree) (patterns patterns' : List Pattern) (exceptions : List Exception) (letters letters' language at : ℕ) (steps : List Step) (path : List Mark)
-    → IsKept tree etree patterns exceptions letters → Grows tree new → IsOnly new path at → path ≡ path_in language (shape steps) → is_known patterns path ≡ false → all_letters patterns + letter_count steps ≤ 1000000
+pub pattern_pushed : (tree new newer : Tree) (patterns patterns' : List Pattern) (letters letters' language at : ℕ) (steps : List Step) (path : List Mark)
+    → PatternsKept tree patterns letters → Grows tree new → IsOnly new path at → path ≡ path_in language (shape steps) → is_known patterns path ≡ false → all_letters patterns + letter_count steps ≤ 1000000
     → newer ≡ noted new at (length patterns) → patterns' ≡ patterns ++ new_pattern language steps ∷ [] → letters' ≡ letters + letter_count steps
-    → IsKept newer etree patterns' exceptions letters'
-kept_pattern_added tree new newer etree patterns patterns' exceptions letters letters' language at steps path k g only path_is none room en ep el =
-    let grown = Indexes-grown tree new _ _ g k.patterns_indexed in
+    → PatternsKept newer patterns' letters'
+pattern_pushed tree new newer patterns patterns' letters letters' language at steps path k g only path_is none room en ep el =
+    let grown = Indexes-grown tree new _ _ g k.indexed in
     let added = patterns_added new patterns (new_pattern language steps) path at grown only path_is none in
     let sums = all_letters-push patterns (new_pattern language steps) in
     let sums' = ap all_letters ep in
     let letters_are = k.letters_are in
+    record { indexed = rw (en, ep) added; letters_are = omega arith; letters_few = omega arith }
+
+-- The letters of a pattern are those of its path.
+abbrev characters : List Mark → ℕ
+characters [] = 0
+characters (Language language ∷ marks) = characters marks
+characters (Character code ∷ marks) = characters marks + 1
+characters (Boundary ∷ marks) = characters marks
+
+letter_count-shape : (steps : List Step) → letter_count steps ≡ characters (shape steps)
+letter_count-shape [] = refl
+letter_count-shape (Letter code ∷ steps) = ap (λ (n : ℕ). n + 1) (letter_count-shape steps)
+letter_count-shape (Digit digit ∷ steps) = letter_count-shape steps
+letter_count-shape (Edge ∷ steps) = letter_count-shape steps
+
+same_letters : (a b : Pattern) → pattern_path a ≡ pattern_path b → letter_count a.steps ≡ letter_count b.steps
+same_letters a b e =
+    letter_count-shape a.steps ∙ ap characters (rest_same a.language b.language (shape a.steps) (shape b.steps) e) ∙ sym (letter_count-shape b.steps)
+
+all_letters-set : (patterns : List Pattern) (i : ℕ) (new : Pattern) → i < length patterns → letter_count new.steps ≡ letter_count (pattern_at patterns i).steps → all_letters (set patterns i new) ≡ all_letters patterns
+all_letters-set [] i new low e = absurd (omega arith)
+all_letters-set (pattern ∷ patterns) zero new low e = ap (λ (n : ℕ). n + all_letters patterns) e
+all_letters-set (pattern ∷ patterns) (suc i) new low e = ap (λ (n : ℕ). letter_count pattern.steps + n) (all_letters-set patterns i new (omega arith) e)
+
+-- A known pattern in the place of which another one with its path comes.
+pub pattern_replaced : (tree : Tree) (patterns : List Pattern) (letters i : ℕ) (new : Pattern) → PatternsKept tree patterns letters → IsKnownAt patterns (pattern_path new) i
+    → PatternsKept tree (set patterns i new) letters
+pattern_replaced tree patterns letters i new k found =
+    let keys : map pattern_path (set patterns i new) ≡ map pattern_path patterns = map-set_same pattern_path patterns i new _ (sym found.path_is) in
+    let counts : map digit_counts (set patterns i new) ≡ set (map digit_counts patterns) i (digit_counts new) = map-set digit_counts patterns i new in
+    let counted : counts_at (map digit_counts patterns) i ≡ true = pattern_counts patterns i found.within ∙ found.digit in
+    let sums = all_letters-set patterns i new found.within (same_letters new (pattern_at patterns i) (sym found.path_is)) in
+    let letters_are = k.letters_are in
     record {
-      patterns_indexed = rw (en, ep) added;
-      exceptions_indexed = k.exceptions_indexed;
-      letters_are = omega arith;
-      letters_few = omega arith;
-      exceptions_few = k.exceptions_few;
+      indexed =
+          indexes_along _ _ _ _ _ _ refl (sym keys) (sym counts) (Indexes-recounted tree (map pattern_path patterns) (map digit_counts patterns) i (digit_counts new) counted k.indexed);
+      letters_are = letters_are ∙ sym sums;
+      letters_few = k.letters_few;
     }
 
-pub kept_exception_added : (tree etree new newer : Tree) (patterns : List Pattern) (exceptions exceptions' : List Exception) (letters at : ℕ) (exception : Exception) (path : List Mark)
-    → IsKept tree etree patterns exceptions letters → Grows etree new → IsOnly new path at → path ≡ exception_path exception → exception_of exceptions path ≡ None → length exceptions < 10000
+-- The steps in the place of the known pattern's.
+pub replaces : (patterns : List Pattern) (path : List Mark) (entry language : ℕ) (steps listed : List Step) (old : Pattern) → IsKnownAt patterns path entry → path ≡ path_in language (shape steps)
+    → old ≡ pattern_at patterns entry → listed ≡ steps
+    → (let new : Pattern = record { language = old.language; steps = listed } in new) ≡ new_pattern language steps
+replaces patterns path entry language steps listed old found path_is old_is listed_is =
+    let whole : path_in old.language (shape old.steps) ≡ path_in language (shape steps) = ap pattern_path old_is ∙ found.path_is ∙ path_is in
+    let same_language : old.language ≡ language = first_same _ _ _ _ whole in
+    cc
+
+pub exception_pushed : (tree new newer : Tree) (exceptions exceptions' : List Exception) (at : ℕ) (exception : Exception) (path : List Mark)
+    → ExceptionsKept tree exceptions → Grows tree new → IsOnly new path at → path ≡ exception_path exception → exception_of exceptions path ≡ None → length exceptions < 10000
     → newer ≡ noted new at (length exceptions) → exceptions' ≡ exceptions ++ exception ∷ []
-    → IsKept tree newer patterns exceptions' letters
-kept_exception_added tree etree new newer patterns exceptions exceptions' letters at exception path k g only path_is none room en ep =
-    let grown = Indexes-grown etree new _ _ g k.exceptions_indexed in
+    → ExceptionsKept newer exceptions'
+exception_pushed tree new newer exceptions exceptions' at exception path k g only path_is none room en ep =
+    let grown = Indexes-grown tree new _ _ g k.indexed in
     let lengths = length-map exceptions exception_path in
     let counts_length : length (map always exceptions) ≡ length (map exception_path exceptions) = length-map exceptions always ∙ sym lengths in
     let added = Indexes-added new (map exception_path exceptions) (map always exceptions) path at true only counts_length
@@ -96,29 +126,17 @@ kept_exception_added tree etree new newer patterns exceptions exceptions' letter
     let indexed : ExceptionsIndexed (noted new at (length exceptions)) (exceptions ++ exception ∷ []) = indexes_along _ _ _ _ _ _ (ap (noted new at) lengths) keys counts added in
     let one = length_push exceptions exception in
     let length' = ap length ep in
-    record {
-      patterns_indexed = k.patterns_indexed;
-      exceptions_indexed = rw (en, ep) indexed;
-      letters_are = k.letters_are;
-      letters_few = k.letters_few;
-      exceptions_few = omega arith;
-    }
+    record { indexed = rw (en, ep) indexed; few = omega arith }
 
-pub kept_exception_replaced : (tree etree : Tree) (patterns : List Pattern) (exceptions : List Exception) (letters i : ℕ) (exception : Exception)
-    → IsKept tree etree patterns exceptions letters → exception_path exception ≡ exception_path (exception_at exceptions i)
-    → IsKept tree etree patterns (set exceptions i exception) letters
-kept_exception_replaced tree etree patterns exceptions letters i exception k same =
+pub exception_replaced : (tree : Tree) (exceptions : List Exception) (i : ℕ) (exception : Exception)
+    → ExceptionsKept tree exceptions → exception_path exception ≡ exception_path (exception_at exceptions i)
+    → ExceptionsKept tree (set exceptions i exception)
+exception_replaced tree exceptions i exception k same =
     let keys = map-set_same exception_path exceptions i exception _ same in
     let counts = map-set_same always exceptions i exception exception refl in
     let lengths = length-set exceptions i exception in
-    let few = k.exceptions_few in
-    record {
-      patterns_indexed = k.patterns_indexed;
-      exceptions_indexed = indexes_along _ _ _ _ _ _ refl (sym keys) (sym counts) k.exceptions_indexed;
-      letters_are = k.letters_are;
-      letters_few = k.letters_few;
-      exceptions_few = omega arith;
-    }
+    let few = k.few in
+    record { indexed = indexes_along _ _ _ _ _ _ refl (sym keys) (sym counts) k.indexed; few = omega arith }
 
 -- New places in an exception's stead.
 pub put_replaces : (exceptions : List Exception) (path : List Mark) (entry language : ℕ) (word places listed : List ℕ) (old : Exception) → IsException exceptions path entry → path ≡ path_in language (word_marks word)

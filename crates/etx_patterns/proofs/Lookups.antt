@@ -6,10 +6,10 @@ use Rattle.etx_patterns.specs.declared.step.Mark.{Mark}
 use Rattle.etx_patterns.specs.declared.tables.Pattern.{Pattern}
 use Rattle.etx_patterns.specs.declared.tables.Exception.{Exception}
 use Rattle.etx_patterns.specs.Shapes.{has_digit, same_marks}
-use Rattle.etx_patterns.specs.Tables.{pattern_path, exception_path, exception_of, exception_at, IsException, is_known, put}
+use Rattle.etx_patterns.specs.Tables.{pattern_path, exception_path, exception_of, exception_at, IsException, is_known, put, replaced, IsKnownAt}
 use Rattle.etx_patterns.specs.Tree.{Tree, size, path_at, entry_at, IsOnly}
 use Rattle.etx_patterns.specs.Kept.{key_at, counts_at, PatternsIndexed, ExceptionsIndexed, always}
-use Rattle.etx_patterns.specs.Scores.{pattern_at}
+use Rattle.etx_patterns.specs.Tables.{pattern_at}
 use Rattle.etx_patterns.proofs.Indexing.{same_marks-sound, same_marks-complete, not_same_marks}
 use Rattle.etx_patterns.proofs.Scoring.{pattern_key, pattern_counts}
 
@@ -86,6 +86,56 @@ known_here tree patterns path node i t only e =
   where
     some_same : (a b : ℕ) → Some a ≡ Some b → a ≡ b
     some_same a b e = cc
+
+-- The entry of a node is the one known pattern with its path.
+pub known_only : (tree : Tree) (patterns : List Pattern) (path : List Mark) (node i : ℕ) → PatternsIndexed tree patterns → IsOnly tree path node → entry_at tree node ≡ Some i
+    → has_digit (pattern_at patterns i).steps ≡ true → IsKnownAt patterns path i
+known_only tree patterns path node i t only e digit =
+    let found = entry_pattern tree patterns node i t only.within e in
+    record {
+      within = found.0;
+      path_is = found.1 ∙ only.path_is;
+      digit = digit;
+      only = λ j low p d.
+          some_same j i
+          (sym (t.key_entry node j only.within (omega (arith, patterns_length patterns)) (pattern_key patterns j low ∙ p ∙ sym only.path_is) (pattern_counts patterns j low ∙ d)) ∙ e);
+    }
+  where
+    some_same : (a b : ℕ) → Some a ≡ Some b → a ≡ b
+    some_same a b e = cc
+
+pub known_at_is : (patterns : List Pattern) (path : List Mark) (i : ℕ) → IsKnownAt patterns path i → is_known patterns path ≡ true
+known_at_is patterns path i found = known patterns path i found.within found.path_is found.digit
+
+zero_is_no_suc : (i : ℕ) → 0 ≡ suc i → ⊥
+zero_is_no_suc i e = omega arith
+
+same_if_suc : (a b : ℕ) → suc a ≡ suc b → a ≡ b
+same_if_suc a b e = omega arith
+
+passed_over : (pattern new : Pattern) → (pattern_path pattern ≡ pattern_path new → has_digit pattern.steps ≡ true → ⊥) → (same_marks (pattern_path pattern) (pattern_path new) && has_digit pattern.steps) ≡ false
+passed_over pattern new apart =
+    elim (cases_Bool (same_marks (pattern_path pattern) (pattern_path new))) [
+      | inl same ↦
+          (elim (cases_Bool (has_digit pattern.steps)) [
+            | inl digit ↦ absurd (apart (same_marks-sound (pattern_path pattern) (pattern_path new) same) digit)
+            | inr none ↦ rw (same, none) refl
+          ])
+      | inr other ↦ rw other refl
+    ]
+
+pub replaced-found : (patterns : List Pattern) (new : Pattern) (i : ℕ) → i < length patterns → pattern_path (pattern_at patterns i) ≡ pattern_path new → has_digit (pattern_at patterns i).steps ≡ true
+    → ((j : ℕ) → j < length patterns → pattern_path (pattern_at patterns j) ≡ pattern_path new → has_digit (pattern_at patterns j).steps ≡ true → j ≡ i)
+    → replaced patterns new ≡ set patterns i new
+replaced-found [] new i low e d only = absurd (omega arith)
+replaced-found (pattern ∷ patterns) new zero low e d only =
+    let same = same_marks-complete (pattern_path pattern) (pattern_path new) e in
+    rw (same, d) refl
+replaced-found (pattern ∷ patterns) new (suc i) low e d only =
+    let other = passed_over pattern new (λ p q. zero_is_no_suc i (only 0 (omega arith) p q)) in
+    rw other
+    (ap (λ (it : List Pattern). pattern ∷ it)
+    (replaced-found patterns new i (omega arith) e d (λ j j_low p q. same_if_suc j i (only (suc j) (omega arith) p q))))
 
 -- Exceptions.
 pub exception_key : (exceptions : List Exception) (i : ℕ) → i < length exceptions → key_at (map exception_path exceptions) i ≡ exception_path (exception_at exceptions i)

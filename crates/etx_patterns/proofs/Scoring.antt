@@ -13,7 +13,8 @@ use Rattle.etx_patterns.specs.Shapes.{shape, has_digit, digit_from, same_marks, 
 use Rattle.etx_patterns.specs.Tables.{pattern_path, matches_at, given_digit, greatest_of, greatest_digit}
 use Rattle.etx_patterns.specs.Tree.{Tree, size, path_at, entry_at}
 use Rattle.etx_patterns.specs.Kept.{key_at, counts_at, PatternsIndexed, digit_counts}
-use Rattle.etx_patterns.specs.Scores.{Raised, pattern_at, digit_of_entry, entry_digit}
+use Rattle.etx_patterns.specs.Scores.{Raised, digit_of_entry, entry_digit}
+use Rattle.etx_patterns.specs.Tables.{pattern_at}
 use Rattle.etx_patterns.proofs.Indexing.{same_marks-sound, same_marks-complete}
 
 neither : (a b : Bool) → (a || b) ≡ false → (a ≡ false) × (b ≡ false)

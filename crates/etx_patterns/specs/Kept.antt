@@ -1,4 +1,4 @@
--- How two tries stand for the tables.
+-- How tries stand for the tables.
 use Rattle.std.specs.Prelude.{ℕ, ◌<◌, ◌≤◌, ◌≡◌, ◌≢◌, Bool, true, false, List, [], Some, length, map, slice_index_or}
 use Rattle.etx_patterns.specs.declared.step.Mark.{Mark}
 use Rattle.etx_patterns.specs.declared.tables.Pattern.{Pattern}
@@ -33,9 +33,11 @@ PatternsIndexed tree patterns = Indexes tree (map pattern_path patterns) (map di
 abbrev pub ExceptionsIndexed : Tree → List Exception → Type 0
 ExceptionsIndexed tree exceptions = Indexes tree (map exception_path exceptions) (map always exceptions)
 
-pub record IsKept (pattern_tree exception_tree : Tree) (patterns : List Pattern) (exceptions : List Exception) (letters : ℕ) : Type 0 where
-  pub patterns_indexed : PatternsIndexed pattern_tree patterns
-  pub exceptions_indexed : ExceptionsIndexed exception_tree exceptions
+pub record PatternsKept (tree : Tree) (patterns : List Pattern) (letters : ℕ) : Type 0 where
+  pub indexed : PatternsIndexed tree patterns
   pub letters_are : letters ≡ all_letters patterns
   pub letters_few : letters ≤ 1000000
-  pub exceptions_few : length exceptions ≤ 10000
+
+pub record ExceptionsKept (tree : Tree) (exceptions : List Exception) : Type 0 where
+  pub indexed : ExceptionsIndexed tree exceptions
+  pub few : length exceptions ≤ 10000

@@ -3,13 +3,11 @@ use Rattle.std.specs.Prelude.{ℕ, ◌<◌, ◌≡◌, List, [], Option, Some, N
 use Rattle.etx_patterns.specs.declared.tables.Pattern.{Pattern}
 use Rattle.etx_patterns.specs.Tree.{Tree, entry_at}
 use Rattle.etx_patterns.specs.Shapes.{digit_from}
+use Rattle.etx_patterns.specs.Tables.{pattern_at}
 
 -- Each score has risen to a number, if it was less.
 abbrev pub Raised : List ℕ → List ℕ → (ℕ → ℕ) → Type 0
 Raised old new by = (place : ℕ) → place < length old → slice_index new place ≡ max (slice_index old place) (by place)
-
-abbrev pub pattern_at : List Pattern → ℕ → Pattern
-pattern_at patterns i = slice_index_or patterns i (record { language = 0; steps = [] })
 
 abbrev pub digit_of_entry : List Pattern → Option ℕ → ℕ → ℕ → ℕ
 digit_of_entry patterns None start place = 0

@@ -1,5 +1,5 @@
 -- The tables of patterns and exceptions, and the places of a word that they allow.
-use Rattle.std.specs.Prelude.{ℕ, ◌+◌, ◌-◌, Bool, false, ◌&&◌, ◌||◌, List, [], ◌∷◌, ◌++◌, max, filter, length, take, drop, Option, Some, None, is_some, if◌then◌else◌, ◌==◌, nat_lt, nat_le, Result, Ok, Err, ◌≡◌, ◌<◌, slice_index_or, ⊤}
+use Rattle.std.specs.Prelude.{ℕ, ◌+◌, ◌-◌, Bool, true, false, ◌&&◌, ◌||◌, List, [], ◌∷◌, ◌++◌, max, filter, length, take, drop, Option, Some, None, is_some, if◌then◌else◌, ◌==◌, nat_lt, nat_le, Result, Ok, Err, ◌≡◌, ◌<◌, slice_index_or, ⊤}
 use Rattle.std.specs.List.{range_with_len, list_any}
 use Rattle.etx_patterns.specs.declared.step.Step.{Step}
 use Rattle.etx_patterns.specs.declared.step.Mark.{Mark}
@@ -88,12 +88,35 @@ new_pattern language steps = record { language = language; steps = steps }
 unfoldable pub with_pattern : Tables → ℕ → List Step → Tables
 with_pattern tables language steps = record tables { patterns = tables.patterns ++ new_pattern language steps ∷ [] }
 
+-- A pattern in the place of the one with its path and with a digit above 0.
+abbrev pub replaced : List Pattern → Pattern → List Pattern
+replaced [] new = []
+replaced (pattern ∷ patterns) new = if same_marks (pattern_path pattern) (pattern_path new) && has_digit pattern.steps then new ∷ patterns else pattern ∷ replaced patterns new
+
+-- Adds a pattern, or puts it in the place of the known one with its letters and edges. "TeX: The Program", section 963:
+-- there a pattern that comes again is stored all the same, behind the error.
+unfoldable pub with_replaced : Tables → ℕ → List Step → Tables
+with_replaced tables language steps =
+    if is_known tables.patterns (path_in language (shape steps)) then record tables { patterns = replaced tables.patterns (new_pattern language steps) }
+    else record tables { patterns = tables.patterns ++ new_pattern language steps ∷ [] }
+
+-- Why that is refused, if it is. A pattern in the place of another takes no further room.
+unfoldable pub replacement_refusal : Tables → ℕ → List Step → Option PatternRefused
+replacement_refusal tables language steps =
+    if has_zero_letter steps then Some NonLetter
+    else (if is_known tables.patterns (path_in language (shape steps)) then None
+    else (if nat_lt 1000000 (all_letters tables.patterns + letter_count steps) then Some Full else None))
+
 -- Why an exception is refused, if it is. A word that has one already takes no further room; there is room for 10000.
 unfoldable pub exception_refusal : Tables → ℕ → List ℕ → Option PatternRefused
 exception_refusal tables language word =
     if list_any (λ letter. letter == 0) word then Some NonLetter
     else (if is_some (exception_of tables.exceptions (path_in language (word_marks word))) then None
     else (if nat_le 10000 (length tables.exceptions) then Some Full else None))
+
+-- A word of this path has an exception, or there is room for one.
+abbrev pub has_room_for : List Exception → List Mark → Bool
+has_room_for exceptions path = is_some (exception_of exceptions path) || nat_lt (length exceptions) 10000
 
 -- An exception takes the place of an earlier one for the same word, or is added.
 abbrev pub put : List Exception → Exception → List Exception
@@ -123,3 +146,13 @@ pub record IsException (exceptions : List Exception) (path : List Mark) (entry :
   pub path_is : exception_path (exception_at exceptions entry) ≡ path
   pub first : exception_of exceptions path ≡ Some (exception_at exceptions entry).places
   pub only : (other : ℕ) → other < length exceptions → exception_path (exception_at exceptions other) ≡ path → other ≡ entry
+
+abbrev pub pattern_at : List Pattern → ℕ → Pattern
+pattern_at patterns i = slice_index_or patterns i (record { language = 0; steps = [] })
+
+-- The number of the one pattern with this path and with a digit above 0.
+pub record IsKnownAt (patterns : List Pattern) (path : List Mark) (i : ℕ) : Type 0 where
+  pub within : i < length patterns
+  pub path_is : pattern_path (pattern_at patterns i) ≡ path
+  pub digit : has_digit (pattern_at patterns i).steps ≡ true
+  pub only : (other : ℕ) → other < length patterns → pattern_path (pattern_at patterns other) ≡ path → has_digit (pattern_at patterns other).steps ≡ true → other ≡ i

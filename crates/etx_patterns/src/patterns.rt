@@ -1,46 +1,38 @@
+//! Hyphenation tables.
 ghost use Rattle.std.specs.Prelude.{◌≡◌, ◌≤◌, ℕ, List, length, All, IfOk, OnOk, OnErr};
-ghost use Rattle.etx_patterns.specs.Tables.{empty, with_pattern, with_exception, pattern_refusal, exception_refusal, AnswersBy, places_of};
+ghost use Rattle.etx_patterns.specs.Tables.{empty, with_pattern, with_replaced, with_exception, pattern_refusal, replacement_refusal, exception_refusal, AnswersBy, places_of};
 
-use crate::marks::{framed, has_digit, has_zero_letter, letter_count, pattern_path, word_path};
+use crate::exception_list::ExceptionList;
+use crate::marks::{framed, has_zero_letter, letter_count, pattern_path, word_path};
+use crate::pattern_list::PatternList;
 use crate::places::{listed_places, odd_places};
 use crate::refused::PatternRefused;
-use crate::score::score_word;
-use crate::step::{Mark, Step};
-use crate::tables::{Exception, Pattern, copy_exceptions, copy_patterns};
-use crate::trie::Trie;
-use etx_lists::{Bytes, Listed};
+use crate::step::Step;
 use std::alloc::{AllocError, Global};
 use std::marker::Model;
+use std::sync::Arc;
 
 /// The most letters that all patterns have.
 const MOST_LETTERS: usize = 1_000_000;
 
-/// The most exceptions.
-const MOST_EXCEPTIONS: usize = 10_000;
-
 /// Hyphenation tables for all languages.
 ///
 /// Contracts see the list of patterns, in the order in which they were added, and the list of exceptions, at most one
-/// for each word of a language.
+/// for each word of a language. Both are shared by the copies of the tables, each for itself: a change copies its own part
+/// alone, and only where another copy has it too.
 #[derive(Drop)]
 pub struct Patterns {
-    patterns: Vec<Pattern>,
-    pattern_trie: Trie,
-    letters: usize,
-    exceptions: Vec<Exception>,
-    exception_trie: Trie,
+    patterns: Arc<PatternList, Global>,
+    exceptions: Arc<ExceptionList, Global>,
 }
 
 impl Model for Patterns {
+    ghost use Rattle.std.specs.Arc.{arc_value};
     ghost use Rattle.etx_patterns.specs.Tables.{Tables};
 
     ghost Value = { Tables };
 
-    ghost use Rattle.etx_patterns.specs.Kept.{IsKept};
-
-    ghost view = { λ it. record { patterns = it.patterns.items; exceptions = it.exceptions.items } };
-
-    ghost invariant = { λ it. IsKept it.pattern_trie it.exception_trie it.patterns.items it.exceptions.items it.letters };
+    ghost view = { λ it. record { patterns = arc_value it.patterns; exceptions = arc_value it.exceptions } };
 }
 
 impl Patterns {
@@ -48,32 +40,22 @@ impl Patterns {
     pub fn new(alloc: Global) -> Result<Patterns, AllocError>
         ensures { IfOk result (λ it. it ≡ empty) }
     {
-        let pattern_trie = Trie::new(alloc)?;
-        let exception_trie = Trie::new(alloc)?;
+        let patterns = PatternList::new(alloc)?;
+        let exceptions = ExceptionList::new(alloc)?;
         Ok(Patterns {
-            patterns: Vec::new(alloc),
-            pattern_trie,
-            letters: 0,
-            exceptions: Vec::new(alloc),
-            exception_trie,
+            patterns: Arc::new(alloc, patterns)?,
+            exceptions: Arc::new(alloc, exceptions)?,
         })
     }
 
-    /// Equal tables, which later changes of these don't reach.
+    /// Equal tables, which later changes of these don't reach. It copies no pattern and no exception; the only want is of
+    /// room in the counts of those that share them.
     pub fn copy(&self) -> Result<Patterns, AllocError>
         ensures { IfOk result (λ it. it ≡ self.now) }
     {
-        let alloc = *self.patterns.allocator();
-        let patterns = copy_patterns(alloc, self.patterns.as_slice())?;
-        let pattern_trie = self.pattern_trie.copy()?;
-        let exceptions = copy_exceptions(alloc, self.exceptions.as_slice())?;
-        let exception_trie = self.exception_trie.copy()?;
         Ok(Patterns {
-            patterns,
-            pattern_trie,
-            letters: self.letters,
-            exceptions,
-            exception_trie,
+            patterns: Arc::try_clone(&self.patterns)?,
+            exceptions: Arc::try_clone(&self.exceptions)?,
         })
     }
 
@@ -90,15 +72,40 @@ impl Patterns {
         if has_zero_letter(pattern) {
             return Err(PatternRefused::NonLetter);
         }
-        let path = pattern_path(*self.patterns.allocator(), language, pattern)?;
-        if self.is_known(path.as_slice()) {
+        let path = pattern_path(self.patterns.allocator(), language, pattern)?;
+        if self.knows(path.as_slice()) {
             return Err(PatternRefused::Duplicate);
         }
-        let letters = letter_count(pattern);
-        if letters > MOST_LETTERS - self.letters {
+        if letter_count(pattern) > MOST_LETTERS - self.letters() {
             return Err(PatternRefused::Full);
         }
-        self.put_pattern(language, pattern, path.as_slice())?;
+        self.push_pattern(language, pattern, path.as_slice())?;
+        Ok(())
+    }
+
+    /// Adds a pattern, and puts it in the place of the one that would make `add` refuse it as a `Duplicate`: what TeX
+    /// does after that error ("TeX: The Program", section 963).
+    ///
+    /// Refused, in this order: `NonLetter` exactly where a letter is 0; `Full` exactly where the language has no pattern
+    /// of the same letters and edges, in the same order, with a digit above 0, and the letters of all patterns would
+    /// pass 1000000. After an `Err` the tables are as before.
+    pub fn replace(&mut self, language: u8, pattern: &[Step]) -> Result<(), PatternRefused>
+        ensures ok { OnOk result (self.new ≡ with_replaced self.old language pattern.now) }
+        ensures err { OnErr result (self.new ≡ self.old) }
+        ensures answer { AnswersBy (replacement_refusal self.old language pattern.now) result }
+    {
+        if has_zero_letter(pattern) {
+            return Err(PatternRefused::NonLetter);
+        }
+        let path = pattern_path(self.patterns.allocator(), language, pattern)?;
+        if self.knows(path.as_slice()) {
+            self.replace_pattern(language, pattern, path.as_slice())?;
+            return Ok(());
+        }
+        if letter_count(pattern) > MOST_LETTERS - self.letters() {
+            return Err(PatternRefused::Full);
+        }
+        self.push_pattern(language, pattern, path.as_slice())?;
         Ok(())
     }
 
@@ -117,23 +124,11 @@ impl Patterns {
         if word.contains(&0) {
             return Err(PatternRefused::NonLetter);
         }
-        let alloc = *self.patterns.allocator();
-        let path = word_path(alloc, language, word)?;
-        let listed = Bytes::from_slice(alloc, places)?;
-        if let Some(entry) = self.exception_at(path.as_slice()) {
-            self.exceptions[entry].places = listed;
-            return Ok(());
-        }
-        if self.exceptions.len() >= MOST_EXCEPTIONS {
+        let path = word_path(self.patterns.allocator(), language, word)?;
+        if !self.has_room_for(path.as_slice()) {
             return Err(PatternRefused::Full);
         }
-        let letters = Bytes::from_slice(alloc, word)?;
-        let exception = Exception {
-            language,
-            word: letters,
-            places: listed,
-        };
-        self.put_exception(exception, path.as_slice())?;
+        self.put_exception(language, word, places, path.as_slice())?;
         Ok(())
     }
 
@@ -146,81 +141,110 @@ impl Patterns {
         requires { length word.now ≤ 63 }
         ensures { IfOk result (λ it. it.items ≡ places_of self.now language word.now) }
     {
-        let alloc = *self.patterns.allocator();
+        let alloc = self.patterns.allocator();
         let path = word_path(alloc, language, word)?;
-        if let Some(entry) = self.exception_at(path.as_slice()) {
-            return listed_places(alloc, word.len(), self.exceptions[entry].places.as_slice());
+        if let Some(places) = self.listed(path.as_slice()) {
+            return listed_places(alloc, word.len(), places);
         }
         let marks = framed(alloc, word)?;
         let mut scores = [0; 66];
-        score_word(
-            &self.pattern_trie,
-            self.patterns.as_slice(),
-            language,
-            marks.as_slice(),
-            &mut scores,
-        );
+        self.score(language, marks.as_slice(), &mut scores);
         odd_places(alloc, word.len(), &scores)
     }
 }
 
-ghost use Rattle.std.specs.Prelude.{◌<◌, ◌+◌, false, ◌++◌, ◌∷◌, [], MatchOption, slice_index_or, None};
-ghost use Rattle.etx_patterns.specs.Tables.{IsException, is_known, exception_of, exception_path, all_letters, new_pattern, put};
-ghost use Rattle.etx_patterns.specs.Shapes.{path_in, shape, letter_count, has_digit};
+ghost use Rattle.std.specs.Prelude.{◌<◌, ◌+◌, true, false, ◌++◌, ◌∷◌, [], MatchOption, None, Some, slice_index};
+ghost use Rattle.etx_patterns.specs.Tables.{is_known, exception_of, all_letters, new_pattern, new_exception, replaced, put, has_room_for, greatest_digit};
+ghost use Rattle.etx_patterns.specs.Shapes.{path_in, shape, word_marks, letter_count};
+
+use crate::step::Mark;
 
 impl Patterns {
     /// Whether there is a pattern with this path and with a digit above 0.
-    fn is_known(&self, path: &[Mark]) -> bool
+    fn knows(&self, path: &[Mark]) -> bool
         ensures { result ≡ is_known self.now.patterns path.now }
     {
-        let Some(at) = self.pattern_trie.find(path) else {
-            return false;
-        };
-        match self.pattern_trie.entry(at) {
-            None => false,
-            Some(entry) => has_digit(self.patterns[entry].steps.as_slice()),
-        }
+        self.patterns.is_known(path)
     }
 
-    /// The number of the exception with this path.
-    fn exception_at(&self, path: &[Mark]) -> Option<usize>
+    /// The letters of all patterns.
+    fn letters(&self) -> usize
+        ensures value { result ≡ all_letters self.now.patterns }
+        ensures few { result ≤ 1000000 }
+    {
+        self.patterns.letters()
+    }
+
+    /// Whether a word with this path can be given places.
+    fn has_room_for(&self, path: &[Mark]) -> bool
+        ensures { result ≡ has_room_for self.now.exceptions path.now }
+    {
+        self.exceptions.has_room_for(path)
+    }
+
+    /// The places of the exception with this path.
+    fn listed(&self, path: &[Mark]) -> Option<&[u8]>
         ensures { MatchOption result
             (exception_of self.now.exceptions path.now ≡ None)
-            (λ entry. IsException self.now.exceptions path.now entry) }
+            (λ places. exception_of self.now.exceptions path.now ≡ Some places.now) }
     {
-        let at = self.exception_trie.find(path)?;
-        self.exception_trie.entry(at)
+        self.exceptions.places(path)
     }
 
-    fn put_pattern(&mut self, language: u8, steps: &[Step], path: &[Mark]) -> Result<(), AllocError>
+    /// Raises the scores, which are 0, to the greatest digit at each place over all patterns of the language that match.
+    fn score(&self, language: u8, marks: &[Mark], scores: &mut [u8])
+        requires room { length marks.now < length scores.old }
+        requires zero { (place : ℕ) → slice_index scores.old place ≡ 0 }
+        ensures { (place : ℕ) → place < length scores.old → slice_index scores.new place ≡ greatest_digit self.now.patterns language marks.now place }
+    {
+        self.patterns.score(language, marks, scores);
+    }
+
+    fn push_pattern(
+        &mut self,
+        language: u8,
+        steps: &[Step],
+        path: &[Mark],
+    ) -> Result<(), AllocError>
         requires path { path.now ≡ path_in language (shape steps.now) }
         requires unknown { is_known self.old.patterns path.now ≡ false }
         requires room { all_letters self.old.patterns + letter_count steps.now ≤ 1000000 }
-        ensures ok { OnOk result (self.new ≡ with_pattern self.old language steps.now) }
+        ensures ok { OnOk result (self.new ≡ record self.old { patterns = self.old.patterns ++ new_pattern language steps.now ∷ [] }) }
         ensures err { OnErr result (self.new ≡ self.old) }
     {
-        let letters = letter_count(steps);
-        let steps = Listed::from_slice(*self.patterns.allocator(), steps)?;
-        let at = self.pattern_trie.reach(path)?;
-        let entry = self.patterns.len();
-        self.patterns.push(Pattern { language, steps })?;
-        self.pattern_trie.set_entry(at, entry);
-        self.letters += letters;
-        Ok(())
+        let patterns = Arc::make_mut(&mut self.patterns)?;
+        patterns.push(language, steps, path)
     }
 
-    fn put_exception(&mut self, exception: Exception, path: &[Mark]) -> Result<(), AllocError>
-        requires path { path.now ≡ exception_path exception }
-        requires unknown { exception_of self.old.exceptions path.now ≡ None }
-        requires room { length self.old.exceptions < 10000 }
-        ensures ok { OnOk result (self.new ≡ record self.old { exceptions = put self.old.exceptions exception }) }
+    fn replace_pattern(
+        &mut self,
+        language: u8,
+        steps: &[Step],
+        path: &[Mark],
+    ) -> Result<(), AllocError>
+        requires path { path.now ≡ path_in language (shape steps.now) }
+        requires known { is_known self.old.patterns path.now ≡ true }
+        ensures ok { OnOk result (self.new ≡ record self.old { patterns = replaced self.old.patterns (new_pattern language steps.now) }) }
         ensures err { OnErr result (self.new ≡ self.old) }
     {
-        let at = self.exception_trie.reach(path)?;
-        let entry = self.exceptions.len();
-        self.exceptions.push(exception)?;
-        self.exception_trie.set_entry(at, entry);
-        Ok(())
+        let patterns = Arc::make_mut(&mut self.patterns)?;
+        patterns.replace(language, steps, path)
+    }
+
+    fn put_exception(
+        &mut self,
+        language: u8,
+        word: &[u8],
+        places: &[u8],
+        path: &[Mark],
+    ) -> Result<(), AllocError>
+        requires path { path.now ≡ path_in language (word_marks word.now) }
+        requires room { has_room_for self.old.exceptions path.now ≡ true }
+        ensures ok { OnOk result (self.new ≡ record self.old { exceptions = put self.old.exceptions (new_exception language word.now places.now) }) }
+        ensures err { OnErr result (self.new ≡ self.old) }
+    {
+        let exceptions = Arc::make_mut(&mut self.exceptions)?;
+        exceptions.put(language, word, places, path)
     }
 }
 
@@ -270,6 +294,29 @@ mod tests {
             tables.except(0, b"a\0", &[]),
             Err(PatternRefused::NonLetter)
         );
+        Ok(())
+    }
+
+    #[test]
+    fn replaced(rt: HostRuntime) -> Result<(), Fail> {
+        let mut tables = Patterns::new(rt.alloc())?;
+        tables.add(0, &F1I)?;
+        let copy = tables.copy()?;
+        tables.replace(0, &[Step::Letter(b'f'), Step::Digit(2), Step::Letter(b'i')])?;
+        assert_eq!(rt; tables.breaks(0, b"afib")?.len(), 0);
+        assert_eq!(rt; copy.breaks(0, b"afib")?.as_slice(), [2].as_slice());
+        Ok(())
+    }
+
+    /// Whether a value may be handed to threads: only the bounds matter.
+    fn is_for_threads<T: Send + Sync>(_value: &T) -> bool {
+        true
+    }
+
+    #[test]
+    fn tables_are_for_threads(rt: HostRuntime) -> Result<(), Fail> {
+        let tables = Patterns::new(rt.alloc())?;
+        assert!(rt; is_for_threads(&tables));
         Ok(())
     }
 

@@ -42,6 +42,7 @@ fn settle_all<F: Tree, T: Terminal>(
         Front (entries pen.old deeds.now) (outside_of F.files F.asked T.text tree.old terminal.old) (outside_of F.files F.asked T.text tree.new terminal.new) }
     ensures open { OnOk result (AllOpen (F.is_open tree.new) pen.new.created) }
     ensures later { NoneFell (faults_of F.faults T.faults tree.old terminal.old) (faults_of F.faults T.faults tree.new terminal.new) }
+    ensures steady { OnOk result (F.counts_only_faults → T.counts_only_faults → faults_of F.faults T.faults tree.new terminal.new ≡ faults_of F.faults T.faults tree.old terminal.old) }
     ensures cause { IsErrOf result FlushFault.WriteFault → WriteRose (faults_of F.faults T.faults tree.old terminal.old) (faults_of F.faults T.faults tree.new terminal.new) }
 {
     for deed in deeds {
@@ -94,6 +95,7 @@ impl Journal {
             Front (entries self.old.pen self.old.waiting) (outside_of F.files F.asked T.text tree.old terminal.old) (outside_of F.files F.asked T.text tree.new terminal.new) }
         ensures open { OnOk result (AllOpen (F.is_open tree.new) self.new.pen.created) }
         ensures later { NoneFell (faults_of F.faults T.faults tree.old terminal.old) (faults_of F.faults T.faults tree.new terminal.new) }
+        ensures steady { OnOk result (F.counts_only_faults → T.counts_only_faults → faults_of F.faults T.faults tree.new terminal.new ≡ faults_of F.faults T.faults tree.old terminal.old) }
         ensures cause { IsErrOf result FlushFault.WriteFault → WriteRose (faults_of F.faults T.faults tree.old terminal.old) (faults_of F.faults T.faults tree.new terminal.new) }
     {
         settle_all(self.alloc, &mut self.pen, &self.waiting, tree, terminal)?;

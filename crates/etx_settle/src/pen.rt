@@ -43,6 +43,7 @@ fn add_to_created<F: Tree>(
     ensures asked { F.tells → F.asked tree.new ≡ F.asked tree.old }
     ensures open { (q : List ℕ) → F.is_open tree.old q → F.is_open tree.new q }
     ensures later { Later (F.faults tree.old) (F.faults tree.new) }
+    ensures steady { OnOk result (F.counts_only_faults → F.faults tree.new ≡ F.faults tree.old) }
     ensures cause { IsErrOf result FlushFault.WriteFault → Rose (F.faults tree.old).writes (F.faults tree.new).writes }
 {
     if is_created(created, name) {
@@ -68,6 +69,7 @@ fn write<F: Tree, T: Terminal>(
         Front (written_by created.now name.now bytes.now is_shown) (outside_of F.files F.asked T.text tree.old terminal.old) (outside_of F.files F.asked T.text tree.new terminal.new) }
     ensures open { (q : List ℕ) → F.is_open tree.old q → F.is_open tree.new q }
     ensures later { NoneFell (faults_of F.faults T.faults tree.old terminal.old) (faults_of F.faults T.faults tree.new terminal.new) }
+    ensures steady { OnOk result (F.counts_only_faults → T.counts_only_faults → faults_of F.faults T.faults tree.new terminal.new ≡ faults_of F.faults T.faults tree.old terminal.old) }
     ensures cause { IsErrOf result FlushFault.WriteFault → WriteRose (faults_of F.faults T.faults tree.old terminal.old) (faults_of F.faults T.faults tree.new terminal.new) }
 {
     add_to_created(alloc, created, name, bytes, tree)?;
@@ -93,6 +95,7 @@ fn create<F: Tree, T: Terminal>(
         Front (Made name.now ∷ []) (outside_of F.files F.asked T.text tree.old terminal.now) (outside_of F.files F.asked T.text tree.new terminal.now) }
     ensures open { OnOk result (AllOpen (F.is_open tree.new) created.new.items) }
     ensures later { NoneFell (faults_of F.faults T.faults tree.old terminal.now) (faults_of F.faults T.faults tree.new terminal.now) }
+    ensures steady { OnOk result (F.counts_only_faults → T.counts_only_faults → faults_of F.faults T.faults tree.new terminal.now ≡ faults_of F.faults T.faults tree.old terminal.now) }
     ensures cause { IsErrOf result FlushFault.WriteFault → WriteRose (faults_of F.faults T.faults tree.old terminal.now) (faults_of F.faults T.faults tree.new terminal.now) }
 {
     let kept = Bytes::from_slice(alloc, name)?;
@@ -147,6 +150,7 @@ impl Pen {
             Front (text_written self.old text.now audience).entries (outside_of F.files F.asked T.text tree.old terminal.old) (outside_of F.files F.asked T.text tree.new terminal.new) }
         ensures open { OnOk result (AllOpen (F.is_open tree.new) self.new.created) }
         ensures later { NoneFell (faults_of F.faults T.faults tree.old terminal.old) (faults_of F.faults T.faults tree.new terminal.new) }
+        ensures steady { OnOk result (F.counts_only_faults → T.counts_only_faults → faults_of F.faults T.faults tree.new terminal.new ≡ faults_of F.faults T.faults tree.old terminal.old) }
         ensures cause { IsErrOf result FlushFault.WriteFault → WriteRose (faults_of F.faults T.faults tree.old terminal.old) (faults_of F.faults T.faults tree.new terminal.new) }
     {
         if text.is_empty() {
@@ -183,6 +187,7 @@ impl Pen {
             Front (file_made self.old name.now).entries (outside_of F.files F.asked T.text tree.old terminal.old) (outside_of F.files F.asked T.text tree.new terminal.new) }
         ensures open { OnOk result (AllOpen (F.is_open tree.new) self.new.created) }
         ensures later { NoneFell (faults_of F.faults T.faults tree.old terminal.old) (faults_of F.faults T.faults tree.new terminal.new) }
+        ensures steady { OnOk result (F.counts_only_faults → T.counts_only_faults → faults_of F.faults T.faults tree.new terminal.new ≡ faults_of F.faults T.faults tree.old terminal.old) }
         ensures cause { IsErrOf result FlushFault.WriteFault → WriteRose (faults_of F.faults T.faults tree.old terminal.old) (faults_of F.faults T.faults tree.new terminal.new) }
     {
         create(alloc, &mut self.created, name, tree, terminal)
@@ -207,6 +212,7 @@ impl Pen {
             Front (error_reported self.old text.now line audience).entries (outside_of F.files F.asked T.text tree.old terminal.old) (outside_of F.files F.asked T.text tree.new terminal.new) }
         ensures open { OnOk result (AllOpen (F.is_open tree.new) self.new.created) }
         ensures later { NoneFell (faults_of F.faults T.faults tree.old terminal.old) (faults_of F.faults T.faults tree.new terminal.new) }
+        ensures steady { OnOk result (F.counts_only_faults → T.counts_only_faults → faults_of F.faults T.faults tree.new terminal.new ≡ faults_of F.faults T.faults tree.old terminal.old) }
         ensures cause { IsErrOf result FlushFault.WriteFault → WriteRose (faults_of F.faults T.faults tree.old terminal.old) (faults_of F.faults T.faults tree.new terminal.new) }
     {
         let text = error_text(alloc, self.at_start, text, line)?;
@@ -238,6 +244,7 @@ impl Pen {
             Front (deed_entries self.old deed.now) (outside_of F.files F.asked T.text tree.old terminal.old) (outside_of F.files F.asked T.text tree.new terminal.new) }
         ensures open { OnOk result (AllOpen (F.is_open tree.new) self.new.created) }
         ensures later { NoneFell (faults_of F.faults T.faults tree.old terminal.old) (faults_of F.faults T.faults tree.new terminal.new) }
+        ensures steady { OnOk result (F.counts_only_faults → T.counts_only_faults → faults_of F.faults T.faults tree.new terminal.new ≡ faults_of F.faults T.faults tree.old terminal.old) }
         ensures cause { IsErrOf result FlushFault.WriteFault → WriteRose (faults_of F.faults T.faults tree.old terminal.old) (faults_of F.faults T.faults tree.new terminal.new) }
     {
         match deed {

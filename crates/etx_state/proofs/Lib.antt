@@ -1,6 +1,7 @@
 pub mod Fitting
 pub mod Keys
 pub mod Marks
+pub mod Mouths
 pub mod Naming
 pub mod Refine
 pub mod Stored

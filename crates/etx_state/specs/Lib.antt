@@ -1,8 +1,11 @@
 pub mod Fits
+pub mod Frozen
 pub mod Initial
 pub mod Macros
+pub mod Mouths
 pub mod Naming
 pub mod Reading
+pub mod Rests
 pub mod Saves
-pub mod States
+pub mod Slots
 pub mod Values

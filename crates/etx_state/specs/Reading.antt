@@ -1,5 +1,5 @@
 -- What stands under the keys of each kind, as its type, and what a token means.
-use Rattle.std.specs.Prelude.{ℕ, ℤ, pos, Option, None, ◌==◌, if◌then◌else◌}
+use Rattle.std.specs.Prelude.{ℕ, ℤ, pos, Option, None, ◌==◌, nat_lt, if◌then◌else◌}
 use Rattle.etx_state.specs.declared.key.Key.TheVariants as key
 use Rattle.etx_state.specs.declared.key.Val.{Val}
 use Rattle.etx_state.specs.declared.key.Val.TheVariants as val
@@ -8,6 +8,7 @@ use Rattle.etx_state.specs.declared.key.Meaning.TheVariants as meanings
 use Rattle.etx_matter.specs.declared.token.Token.{Token}
 use Rattle.etx_matter.specs.declared.token.Token.TheVariants as tokens
 use Rattle.etx_prims.specs.declared.parameters.IntParam.{IntParam}
+use Rattle.etx_state.specs.Frozen.{frozen_meaning}
 use Rattle.etx_state.specs.Values.{Values, get}
 
 abbrev pub category_or : Val → ℕ
@@ -30,9 +31,9 @@ kept_or _ = None
 unfoldable pub category_in : Values → ℕ → ℕ
 category_in m code = category_or (get m (key.Category code))
 
--- the meaning of the control sequence whose name has this number
+-- the meaning of the control sequence whose name has this number; those above all names are frozen
 unfoldable pub meaning_in : Values → ℕ → Meaning
-meaning_in m name = meaning_or (get m (key.Meaning name))
+meaning_in m name = if nat_lt name 1048576 then meaning_or (get m (key.Meaning name)) else frozen_meaning name
 
 -- the meaning of an active character
 unfoldable pub active_in : Values → ℕ → Meaning

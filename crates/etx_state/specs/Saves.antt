@@ -1,59 +1,27 @@
--- What the one store stands for: cells with levels, and the stack of what the ends of groups do.
-use Rattle.std.specs.Prelude.{◌≡◌, ℕ, ◌+◌, ◌<◌, ◌≤◌, zero, suc, ◌==◌, List, [], ◌∷◌, Option, Some, None, if◌then◌else◌}
+-- What the parts of the state stand for: cells with levels, and the stack of what the ends of groups do.
+use Rattle.std.specs.Prelude.{◌≡◌, ℕ, ◌+◌, ◌<◌, ◌≤◌, zero, suc, ◌==◌, List, [], ◌∷◌, reverse, take, Option, Some, None, if◌then◌else◌}
 use Rattle.etx_state.specs.declared.key.Key.{Key}
 use Rattle.etx_state.specs.declared.key.Val.{Val}
 use Rattle.etx_state.specs.declared.key.GroupKind.{GroupKind}
-use Rattle.etx_state.specs.declared.slot.Cell.{Cell}
-use Rattle.etx_state.specs.declared.slot.Item.{Item}
-use Rattle.etx_state.specs.declared.slot.Item.TheVariants.{Undo, After, Begin}
-use Rattle.etx_state.specs.declared.slot.Sizes.{Sizes}
-use Rattle.etx_state.specs.declared.slot.Slot.{Slot}
-use Rattle.etx_state.specs.declared.slot.Slot.TheVariants as slots
-use Rattle.etx_state.specs.declared.slot.Content.{Content}
-use Rattle.etx_state.specs.declared.slot.Content.TheVariants.{Held, Stacked, Counted}
-use Rattle.etx_state.specs.contracts.slot.SlotOrd.TheImpl as SlotOrd
-use Rattle.std.specs.declared.cmp.Ordering.{Ordering}
-use Rattle.std.specs.Ordering.{is_eq}
-use Rattle.etx_undo.specs.History.{Kept, place, present, at, IsSince}
+use Rattle.etx_state.specs.declared.cell.Cell.{Cell}
+use Rattle.etx_state.specs.declared.cell.Item.{Item}
+use Rattle.etx_state.specs.declared.cell.Item.TheVariants.{Undo, After, Begin}
+use Rattle.etx_state.specs.declared.parts.Parts.{Parts}
+use Rattle.etx_undo.specs.declared.state_mark.RestMark.{RestMark}
+use Rattle.etx_undo.specs.History as history
+use Rattle.etx_stack.specs.Undoing as undoing
 use Rattle.etx_state.specs.Values.{Values, same, inside, outermost}
 use Rattle.etx_matter.specs.declared.token.Token.{Token}
-use Rattle.etx_matter.specs.declared.token.Token.TheVariants.{Param}
 use Rattle.etx_state.specs.Initial.{first_of}
 use Rattle.etx_state.specs.Fits.{Fits}
+use Rattle.etx_state.specs.Slots.{slot_of}
 
-abbrev pub slot_cmp : Slot → Slot → Ordering
-slot_cmp = (SlotOrd.ghosts).cmp
-
-abbrev pub Kept' : Type 0
-Kept' = Kept Slot Content
-
-abbrev pub cell_or : Key → Option Content → Cell
-cell_or q (Some (Held c)) = c
-cell_or q _ = record { value = first_of q; level = 0 }
-
-abbrev pub item_or : Option Content → Item
-item_or (Some (Stacked i)) = i
-item_or _ = After (Param 0)
-
-abbrev pub sizes_or : Option Content → Sizes
-sizes_or (Some (Counted n)) = n
-sizes_or _ = record { count = 0; depth = 0 }
+abbrev pub cell_or : Key → Option Cell → Cell
+cell_or q (Some c) = c
+cell_or q None = record { value = first_of q; level = 0 }
 
 abbrev pub Cells : Type 0
 Cells = Key → Cell
-
-abbrev pub cells_in : (Slot → Option Content) → Cells
-cells_in f = λ q. cell_or q (f (slots.At q))
-
-abbrev pub items_to : (Slot → Option Content) → ℕ → List Item
-items_to f zero = []
-items_to f (suc n) = item_or (f (slots.Stack n)) ∷ items_to f n
-
-abbrev pub sizes_in : (Slot → Option Content) → Sizes
-sizes_in f = sizes_or (f slots.Sizes)
-
-unfoldable pub items_in : (Slot → Option Content) → List Item
-items_in f = items_to f (sizes_in f).count
 
 abbrev pub put : Cells → Key → Cell → Cells
 put c k x = λ q. if same k q then x else c q
@@ -102,22 +70,6 @@ left_of input (Undo k x ∷ is) c = left_of input is (back (depth_of is) c k x)
 left_of input (After t ∷ is) c = left_of (t ∷ input) is c
 left_of input (Begin kind ∷ is) c = record { kind = Some kind; input = input; items = is; cells = c }
 
--- of the store
-unfoldable pub here : Kept' → Slot → Option Content
-here s = λ q. present slot_cmp s q
-
-unfoldable pub back_at : Kept' → ℕ → Slot → Option Content
-back_at s p = λ q. at slot_cmp s p q
-
-abbrev pub items_of : Kept' → List Item
-items_of s = items_in (here s)
-
-abbrev pub cells_of : Kept' → Cells
-cells_of s = cells_in (here s)
-
-abbrev pub meaning : (Slot → Option Content) → Values
-meaning f = values (items_in f) (cells_in f)
-
 -- what is put back fits its key
 abbrev pub ItemFits : Item → Type 0
 ItemFits (Undo k x) = Fits k x.value
@@ -131,34 +83,53 @@ ItemsFit (i ∷ is) = ItemFits i × ItemsFit is
 abbrev pub CellsFit : Cells → Type 0
 CellsFit c = (q : Key) → Fits q (c q).value
 
-pub record IsWhole (f : Slot → Option Content) : Type 0 where
-  pub counted : (sizes_in f).depth ≡ depth_of (items_in f)
-  pub tied : IsTied (items_in f) (cells_in f)
-  pub cells : CellsFit (cells_in f)
-  pub items : ItemsFit (items_in f)
+-- so many groups are open, what is put back is from below its group, and every value fits its key
+pub record IsWhole (depth : ℕ) (is : List Item) (c : Cells) : Type 0 where
+  pub counted : depth ≡ depth_of is
+  pub tied : IsTied is c
+  pub cells : CellsFit c
+  pub items : ItemsFit is
 
--- THE MEANING: what the state stands for, now and at a place
-unfoldable pub values_in : Kept' → Values
-values_in s = meaning (here s)
+-- of the parts, now and at a mark
+unfoldable pub cells_of : Parts → Cells
+cells_of s = λ q. cell_or q (history.present s.store (slot_of q))
 
-unfoldable pub values_in_at : Kept' → ℕ → Values
-values_in_at s p = meaning (back_at s p)
+unfoldable pub cells_at : Parts → RestMark → Cells
+cells_at s m = λ q. cell_or q (history.at s.store m.values.place (slot_of q))
 
--- up to the place p the state is still what it was in first
-unfoldable pub IsKeptIn : ℕ → Kept' → Kept' → Type 0
-IsKeptIn p first s = IsSince slot_cmp p first s
+unfoldable pub items_of : Parts → List Item
+items_of s = reverse s.stack.items
 
--- at every mark that was taken before, the state is still what it was
-abbrev pub KeepsIn : Kept' → Kept' → Type 0
-KeepsIn old new = (p : ℕ) (first : Kept') → IsKeptIn p first old → IsKeptIn p first new
+unfoldable pub items_at : Parts → RestMark → List Item
+items_at s m = reverse (undoing.at s.stack m.saves)
 
--- whole at every place
-unfoldable pub IsSound : Kept' → Type 0
-IsSound s = (p : ℕ) → p ≤ place s → IsWhole (back_at s p)
+-- THE MEANING: what the parts stand for, now and at a mark
+unfoldable pub values_in : Parts → Values
+values_in s = values (items_of s) (cells_of s)
 
--- one more content in a slot
-abbrev pub set_in : (Slot → Option Content) → Slot → Content → Slot → Option Content
-set_in f s x = λ t. if is_eq (slot_cmp s t) then Some x else f t
+unfoldable pub values_in_at : Parts → RestMark → Values
+values_in_at s m = values (items_at s m) (cells_at s m)
+
+-- so it is with the parts
+abbrev pub IsSound : Parts → Type 0
+IsSound s = IsWhole s.depth (items_of s) (cells_of s)
+
+-- at the mark m the parts are still what they were in first, and one can go back to it
+pub record IsKeptBy (m : RestMark) (first s : Parts) : Type 0 where
+  pub store : history.IsSince m.values.place first.store s.store
+  pub stack : undoing.IsSince m.saves first.stack s.stack
+  pub whole : IsWhole m.depth (items_at first m) (cells_at first m)
+
+unfoldable pub IsKeptIn : RestMark → Parts → Parts → Type 0
+IsKeptIn m first s = IsKeptBy m first s
+
+-- at every mark that was taken before, the parts are still what they were
+abbrev pub KeepsIn : Parts → Parts → Type 0
+KeepsIn old new = (m : RestMark) (first : Parts) → IsKeptIn m first old → IsKeptIn m first new
+
+-- the values at m were marked before those at n
+unfoldable pub IsBeforeIn : RestMark → RestMark → Type 0
+IsBeforeIn m n = (m.values.place ≤ n.values.place) × undoing.IsBefore m.saves n.saves
 
 abbrev pub top_of : List Item → Option Item
 top_of [] = None
@@ -173,11 +144,6 @@ abbrev pub depth_after : Item → ℕ → ℕ
 depth_after (Undo k x) n = n
 depth_after (After t) n = n
 depth_after (Begin kind) n = n + 1
-
-abbrev pub kind_begun : Item → Option GroupKind
-kind_begun (Undo k x) = None
-kind_begun (After t) = None
-kind_begun (Begin kind) = Some kind
 
 abbrev pub kind_in : List Item → Option GroupKind
 kind_in [] = None

@@ -1,8 +1,9 @@
 //! The definition of a macro.
 ghost use Rattle.std.specs.Prelude.{◌≡◌, IfOk};
 
-use etx_input::SharedTokens;
+use etx_lists::Bytes;
 use etx_macros::Pattern;
+use etx_matter::SharedTokens;
 use std::alloc::{AllocError, Global};
 use std::marker::Model;
 use std::sync::Arc;
@@ -11,6 +12,7 @@ use std::sync::Arc;
 #[derive(Drop)]
 struct MacroText {
     pattern: Pattern,
+    marks: Bytes,
     body: SharedTokens,
     is_long: bool,
     is_outer: bool,
@@ -19,7 +21,7 @@ struct MacroText {
 
 /// A macro, which is never changed. Its sharing copies nothing.
 ///
-/// Contracts see the texts that delimit its parameters, its body, and its prefixes.
+/// Contracts see the texts that delimit its parameters, the characters that marked these, its body, and its prefixes.
 #[derive(Drop)]
 pub struct Macro {
     text: Arc<MacroText, Global>,
@@ -33,6 +35,7 @@ impl Model for Macro {
 
     ghost view = { λ it. let text = arc_value it.text in record {
       parts = text.pattern;
+      marks = text.marks;
       body = text.body;
       is_long = text.is_long;
       is_outer = text.is_outer;
@@ -41,10 +44,13 @@ impl Model for Macro {
 }
 
 impl Macro {
-    /// A macro with this parameter text and this body, in which `Token::Param(n)` stands for the n-th argument.
+    /// A macro with this parameter text and this body, in which `Token::Param(n)` stands for the n-th argument. `marks` has
+    /// the code of the character that marked each parameter in the parameter text (mostly 35, the number sign): `\meaning`
+    /// prints it, and to `\ifx` two macros differ that differ in it ("TeX: The Program", sections 294 and 508).
     pub fn new(
         alloc: Global,
         pattern: Pattern,
+        marks: Bytes,
         body: SharedTokens,
         is_long: bool,
         is_outer: bool,
@@ -52,6 +58,7 @@ impl Macro {
     ) -> Result<Macro, AllocError>
         ensures { IfOk result (λ it. it ≡ record {
           parts = pattern;
+          marks = marks;
           body = body;
           is_long = is_long;
           is_outer = is_outer;
@@ -63,6 +70,7 @@ impl Macro {
                 alloc,
                 MacroText {
                     pattern,
+                    marks,
                     body,
                     is_long,
                     is_outer,
@@ -86,6 +94,13 @@ impl Macro {
         ensures { result.now ≡ self.now.parts }
     {
         &self.text.pattern
+    }
+
+    /// The codes of the characters that marked its parameters.
+    pub fn marks(&self) -> &Bytes
+        ensures { result.now ≡ self.now.marks }
+    {
+        &self.text.marks
     }
 
     /// Its body.

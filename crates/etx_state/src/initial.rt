@@ -1,14 +1,21 @@
 //! The values that INITEX starts with.
 ghost use Rattle.std.specs.Prelude.{◌≡◌, None, pos};
 ghost use Rattle.etx_prims.specs.declared.command.Primitive.TheVariants as prims;
+ghost use Rattle.etx_prims.specs.declared.expansion.FiOrElseKind.TheVariants as ends;
+ghost use Rattle.etx_prims.specs.declared.material.EndCellKind.TheVariants as cells;
+ghost use Rattle.etx_prims.specs.declared.general.GroupEdge.TheVariants as edges;
+ghost use Rattle.etx_prims.specs.declared.math.LeftRightKind.TheVariants as delimiters;
 ghost use Rattle.etx_state.specs.declared.key.Meaning.TheVariants as meanings;
 ghost use Rattle.etx_state.specs.declared.key.Val.TheVariants as vals;
+ghost use Rattle.etx_state.specs.Frozen.{frozen_means, frozen_meaning};
 ghost use Rattle.etx_state.specs.Initial.{first_category, first_int, first_of};
 
+use crate::frozen::Frozen;
 use crate::key::{Key, Meaning, Val};
-use etx_prims::{IntParam, Primitive};
+use etx_matter::NameId;
+use etx_prims::{EndCellKind, FiOrElseKind, GroupEdge, IntParam, LeftRightKind, Primitive};
 
-/// The values under keys before any assignment. They are kept, so that they can be lent: a value that may own memory
+/// The values under keys before any assignment, and what frozen control sequences mean. They are kept, so that they can be lent: a value that may own memory
 /// can't be a constant of the program.
 #[derive(Drop)]
 pub struct Firsts {
@@ -34,6 +41,13 @@ pub struct Firsts {
     par: Val,
     undefined: Val,
     no_token: Val,
+    fi: Meaning,
+    relax: Meaning,
+    end_template: Meaning,
+    cr: Meaning,
+    end_group: Meaning,
+    right_delimiter: Meaning,
+    nothing: Meaning,
     ghost right: { (escape ≡ vals.Category 0)
         × (end_of_line ≡ vals.Category 5)
         × (ignored ≡ vals.Category 9)
@@ -55,7 +69,14 @@ pub struct Firsts {
         × (ten_thousand ≡ vals.Int (pos 10000))
         × (par ≡ vals.Means (meanings.Primitive prims.Par))
         × (undefined ≡ vals.Means meanings.Undefined)
-        × (no_token ≡ vals.Kept None) },
+        × (no_token ≡ vals.Kept None)
+        × (fi ≡ meanings.Primitive (prims.FiOrElse ends.Fi))
+        × (relax ≡ meanings.Primitive prims.Relax)
+        × (end_template ≡ meanings.EndTemplate)
+        × (cr ≡ meanings.Primitive (prims.EndCell cells.Cr))
+        × (end_group ≡ meanings.Primitive (prims.SemiSimpleGroup edges.End))
+        × (right_delimiter ≡ meanings.Primitive (prims.LeftRight delimiters.Right))
+        × (nothing ≡ meanings.Undefined) },
 }
 
 impl Firsts {
@@ -84,6 +105,13 @@ impl Firsts {
             par: Val::Means(Meaning::Primitive(Primitive::Par)),
             undefined: Val::Means(Meaning::Undefined),
             no_token: Val::Kept(None),
+            fi: Meaning::Primitive(Primitive::FiOrElse(FiOrElseKind::Fi)),
+            relax: Meaning::Primitive(Primitive::Relax),
+            end_template: Meaning::EndTemplate,
+            cr: Meaning::Primitive(Primitive::EndCell(EndCellKind::Cr)),
+            end_group: Meaning::Primitive(Primitive::SemiSimpleGroup(GroupEdge::End)),
+            right_delimiter: Meaning::Primitive(Primitive::LeftRight(LeftRightKind::Right)),
+            nothing: Meaning::Undefined,
         }
     }
 
@@ -98,6 +126,30 @@ impl Firsts {
             Key::Active(_) => &self.undefined,
             Key::Int(parameter) => self.int(parameter),
             Key::AfterAssignment => &self.no_token,
+        }
+    }
+
+    /// What a control sequence means whose number is above those of all names.
+    #[tactic(auto, unfolding(crate::specs::Frozen::frozen_meaning))]
+    pub fn frozen(&self, name: NameId) -> &Meaning
+        ensures { result.now ≡ frozen_meaning name.0 }
+    {
+        match Frozen::of(name) {
+            Some(it) => self.frozen_means(it),
+            None => &self.nothing,
+        }
+    }
+
+    fn frozen_means(&self, it: Frozen) -> &Meaning
+        ensures { result.now ≡ frozen_means it }
+    {
+        match it {
+            Frozen::Fi => &self.fi,
+            Frozen::Relax => &self.relax,
+            Frozen::EndTemplate => &self.end_template,
+            Frozen::Cr => &self.cr,
+            Frozen::EndGroup => &self.end_group,
+            Frozen::Right => &self.right_delimiter,
         }
     }
 

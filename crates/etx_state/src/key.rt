@@ -34,6 +34,11 @@ pub enum Meaning {
     Char { code: u8, cat: u8 },
     /// A macro.
     Macro(Macro),
+    /// What `\noexpand` makes of a token that would be expanded: it does nothing, as `\relax`, and is not the same as `\relax`
+    /// to `\ifx` ("TeX: The Program", section 358). `\let` gives it on.
+    Unexpanded,
+    /// The end of an alignment's template, which the machine alone inserts (section 780).
+    EndTemplate,
 }
 
 impl Meaning {
@@ -52,6 +57,8 @@ impl Meaning {
                 let shared = definition.share()?;
                 Ok(Meaning::Macro(shared))
             }
+            Meaning::Unexpanded => Ok(Meaning::Unexpanded),
+            Meaning::EndTemplate => Ok(Meaning::EndTemplate),
         }
     }
 }

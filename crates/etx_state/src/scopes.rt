@@ -1,52 +1,56 @@
-//! The values of the state, in groups, over one store.
-ghost use Rattle.std.specs.Prelude.{◌≡◌, ◌≤◌, ◌++◌, ℕ, OnOk, OnErr, IfOk};
-ghost use Rattle.etx_undo.specs.History.{place};
+//! The values of the state, in groups.
+ghost use Rattle.std.specs.Prelude.{◌≡◌, ◌≤◌, ◌++◌, OnOk, OnErr, IfOk};
+ghost use Rattle.etx_undo.specs.declared.state_mark.RestMark.{RestMark};
+ghost use Rattle.etx_state.specs.declared.parts.Parts.{Parts};
 ghost use Rattle.etx_state.specs.Fits.{Fits};
 ghost use Rattle.etx_state.specs.Values.{get, assign, assign_global, change, begin, ended, kind, after, noted, level, outermost};
 ghost use Rattle.etx_state.specs.Initial.{first_of};
+ghost use Rattle.etx_state.specs.Frozen.{frozen_meaning};
 ghost use Rattle.etx_state.specs.Reading.{category_in};
-ghost use Rattle.etx_state.specs.Saves.{values_in, values_in_at, KeepsIn, IsKeptIn, cells_of, IsSound};
+ghost use Rattle.etx_state.specs.Saves.{values_in, values_in_at, KeepsIn, IsKeptIn, IsBeforeIn, cells_of, cells_at, IsSound};
 
 use crate::initial::Firsts;
-use crate::key::{GroupKind, Key, Val};
+use crate::key::{GroupKind, Key, Meaning, Val};
 use crate::noted::Noted;
-use crate::slot::{Content, Slot};
-use crate::{groups, saves};
-use etx_lexer::CatOf;
-use etx_matter::Token;
-use etx_undo::{Mark, Store};
+use crate::parts::Parts;
+use crate::slots::slot;
+use crate::{groups, history};
+use etx_matter::{NameId, Token};
+use etx_stack::Stack;
+use etx_undo::{RestMark, Store};
 use std::alloc::{AllocError, Global};
 use std::marker::Model;
 
-/// Values under keys, in groups. The groups, and what their ends put back, are kept in the store too.
+/// Values under keys, in groups: the cells of keys in a store, and what the ends of groups put back on a stack.
 #[derive(Drop)]
 pub struct Scopes {
-    store: Store<Slot, Content>,
+    parts: Parts,
     firsts: Firsts,
 }
 
 impl Model for Scopes {
-    ghost use Rattle.etx_undo.specs.History.{Kept};
-    ghost use Rattle.etx_state.specs.declared.slot.Slot.{Slot};
-    ghost use Rattle.etx_state.specs.declared.slot.Content.{Content};
+    ghost use Rattle.etx_state.specs.declared.parts.Parts.{Parts};
 
-    ghost Value = { Kept Slot Content };
+    ghost Value = { Parts };
 
     ghost use Rattle.etx_state.specs.Saves.{IsSound};
 
-    ghost view = { λ s. s.store };
+    ghost view = { λ s. s.parts };
 
-    ghost invariant = { λ s. IsSound s.store };
+    ghost invariant = { λ s. IsSound s.parts };
 }
 
 impl Scopes {
-    /// INITEX's values, with no group open, at place 0. Takes no memory.
+    /// INITEX's values, with no group open. Takes no memory.
     pub fn new(alloc: Global) -> Scopes
-        ensures values { values_in result ≡ outermost first_of }
-        ensures place { place result ≡ 0 }
+        ensures { values_in result ≡ outermost first_of }
     {
         Scopes {
-            store: Store::new(alloc),
+            parts: Parts {
+                store: Store::new(alloc),
+                stack: Stack::new(alloc),
+                depth: 0,
+            },
             firsts: Firsts::new(),
         }
     }
@@ -71,14 +75,21 @@ impl Scopes {
         }
     }
 
-    #[tactic(auto, unfolding(crate::specs::Saves::here))]
+    /// What a control sequence means whose number is above those of all names.
+    pub fn frozen(&self, name: NameId) -> &Meaning
+        ensures { result.now ≡ frozen_meaning name.0 }
+    {
+        self.firsts.frozen(name)
+    }
+
+    #[tactic(auto, unfolding(crate::specs::Saves::cells_of))]
     fn held(&self, key: Key) -> &Val
         ensures value { result.now ≡ (cells_of self.now key).value }
         ensures sound { IsSound self.now }
     {
-        match self.store.get(&Slot::At(key)) {
-            Some(Content::Held(cell)) => &cell.value,
-            _ => self.firsts.get(key),
+        match self.parts.store.get(slot(key)) {
+            Some(cell) => &cell.value,
+            None => self.firsts.get(key),
         }
     }
 
@@ -86,14 +97,14 @@ impl Scopes {
     pub fn level(&self) -> u32
         ensures { result ≡ level (values_in self.now) }
     {
-        saves::sizes(&self.store).depth
+        self.parts.depth
     }
 
     /// The kind of the innermost group.
     pub fn kind(&self) -> Option<GroupKind>
         ensures { result ≡ kind (values_in self.now) }
     {
-        groups::kind(&self.store)
+        groups::kind(&self.parts)
     }
 
     /// Writes the innermost map.
@@ -102,7 +113,7 @@ impl Scopes {
         ensures ok { OnOk result (values_in self.new ≡ assign (values_in self.old) key value) }
         ensures kept { KeepsIn self.old self.new }
     {
-        groups::assign(&mut self.store, &self.firsts, key, value)
+        groups::assign(&mut self.parts, &self.firsts, key, value)
     }
 
     /// Writes the outermost map, and takes the key out of all others.
@@ -112,7 +123,7 @@ impl Scopes {
         ensures err { OnErr result (self.new ≡ self.old) }
         ensures kept { KeepsIn self.old self.new }
     {
-        groups::assign_global(&mut self.store, key, value)
+        groups::assign_global(&mut self.parts, key, value)
     }
 
     /// Writes the innermost map that has the key.
@@ -122,23 +133,25 @@ impl Scopes {
         ensures err { OnErr result (self.new ≡ self.old) }
         ensures kept { KeepsIn self.old self.new }
     {
-        groups::change(&mut self.store, key, value)
+        groups::change(&mut self.parts, key, value)
     }
 
     /// One more group.
     pub fn begin(&mut self, kind: GroupKind) -> Result<(), AllocError>
         ensures ok { OnOk result (values_in self.new ≡ begin (values_in self.old) kind) }
+        ensures err { OnErr result (self.new ≡ self.old) }
         ensures kept { KeepsIn self.old self.new }
     {
-        groups::begin(&mut self.store, kind)
+        groups::begin(&mut self.parts, kind)
     }
 
     /// Notes a token that is read after the end of the innermost group.
     pub fn after(&mut self, token: Token) -> Result<(), AllocError>
         ensures ok { OnOk result (values_in self.new ≡ noted (values_in self.old) token) }
+        ensures err { OnErr result (self.new ≡ self.old) }
         ensures kept { KeepsIn self.old self.new }
     {
-        groups::after(&mut self.store, token)
+        groups::after(&mut self.parts, token)
     }
 
     /// The end of the innermost group, whose kind it answers.
@@ -148,31 +161,54 @@ impl Scopes {
         ensures after { OnOk result (noted.new ≡ after (values_in self.old) ++ noted.old) }
         ensures kept { KeepsIn self.old self.new }
     {
-        groups::end(&mut self.store, noted)
+        groups::end(&mut self.parts, noted)
     }
 
-    /// The place now.
-    pub fn mark(&self) -> Mark
-        ensures place { result.place ≡ place self.now }
-        ensures live { IsKeptIn result.place self.now self.now }
-        ensures values { values_in_at self.now result.place ≡ values_in self.now }
+    /// The value under the key at the mark.
+    pub fn value_at(&self, mark: RestMark, key: Key) -> &Val
+        requires { IsKeptIn mark self.now self.now }
+        ensures value { result.now ≡ get (values_in_at self.now mark) key }
+        ensures fits { Fits key result.now }
     {
-        self.store.mark()
+        self.held_at(mark, key)
     }
 
-    /// Forgets what was. The values stay.
+    #[tactic(auto, unfolding(crate::specs::Saves::cells_at))]
+    fn held_at(&self, mark: RestMark, key: Key) -> &Val
+        requires { IsKeptIn mark self.now self.now }
+        ensures { result.now ≡ (cells_at self.now mark key).value }
+    {
+        match self.parts.store.value_at(mark.values, slot(key)) {
+            Some(cell) => &cell.value,
+            None => self.firsts.get(key),
+        }
+    }
+
+    /// A mark of this time, where there are so many names. Takes no memory.
+    pub fn mark(&mut self, names: u32) -> RestMark
+        ensures names { result.names ≡ names }
+        ensures same { values_in self.new ≡ values_in self.old }
+        ensures live { IsKeptIn result self.new self.new }
+        ensures values { values_in_at self.new result ≡ values_in self.new }
+        ensures kept { KeepsIn self.old self.new }
+        ensures before { (m : RestMark) (first : Parts) → IsKeptIn m first self.old → IsBeforeIn m result }
+    {
+        history::mark(&mut self.parts, names)
+    }
+
+    /// Makes the values what they were at the mark. Takes no memory.
+    pub fn back_to(&mut self, mark: RestMark)
+        requires { IsKeptIn mark self.old self.old }
+        ensures values { values_in self.new ≡ values_in_at self.old mark }
+        ensures kept { (m : RestMark) (first : Parts) → IsBeforeIn m mark → IsKeptIn m first self.old → IsKeptIn m first self.new }
+    {
+        history::back_to(&mut self.parts, mark);
+    }
+
+    /// Forgets what was. The values stay. Takes no memory.
     pub fn forget(&mut self)
-        ensures place { place self.new ≡ 0 }
-        ensures values { values_in self.new ≡ values_in self.old }
+        ensures { values_in self.new ≡ values_in self.old }
     {
-        self.store.forget();
-    }
-}
-
-impl CatOf for Scopes {
-    ghost category = { λ scopes code. category_in (values_in scopes) code };
-
-    fn cat(&self, code: u8) -> u8 {
-        self.category(code)
+        history::forget(&mut self.parts);
     }
 }

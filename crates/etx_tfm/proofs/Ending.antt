@@ -253,7 +253,7 @@ found_is o item e = rw e refl
 idle_deepest : (font : FontInfo) (x y : LigItem) → action_between font x y ≡ None → is_none (last font (deepest font) x y) ≡ false
 idle_deepest font x y h = rw (deepest-suc font) (found_is (last font (suc (deepest font - 1)) x y) y (idle font (deepest font - 1) x y h))
 
-all_off : (test : ℕ → Bool) (n : ℕ) → ((c : ℕ) → test c ≡ false) → any_below test n ≡ false
+pub all_off : (test : ℕ → Bool) (n : ℕ) → ((c : ℕ) → test c ≡ false) → any_below test n ≡ false
 unfolding any_below
 all_off test zero h = refl
 all_off test (suc n) h = rw (h n, all_off test n h) refl

@@ -1,8 +1,15 @@
+pub mod Beginnings
+pub mod Deeper
 pub mod Ending
+pub mod HeaderSizes
 pub mod Knowing
+pub mod Loops
 pub mod Passing
+pub mod Plain
 pub mod Programs
 pub mod Rounds
+pub mod Running
 pub mod Settling
 pub mod Sizes
+pub mod Turned
 pub mod Waiting

@@ -1,5 +1,5 @@
 -- The cursor, one item further.
-use Rattle.std.proofs.Common.{◌≡◌, ℕ, suc, ◌+◌, ◌-◌, ◌<◌, ◌≤◌, Bool, true, List, [], ◌∷◌, ◌++◌, length, drop, Option, refl, sym, subst, ap, ◌∙◌, arith}
+use Rattle.std.proofs.Common.{◌≡◌, ℕ, suc, ◌+◌, ◌-◌, ◌<◌, ◌≤◌, Bool, true, List, [], ◌∷◌, ◌++◌, Option, refl, sym, subst, ap, ◌∙◌, arith}
 use Rattle.etx_matter.specs.declared.node.Node.{Node}
 use Rattle.etx_matter.specs.declared.font.PairAction.{PairAction}
 use Rattle.etx_matter.specs.Fonts.{FontState}
@@ -57,11 +57,3 @@ pub comes-next : (font : FontState) (first : List Node) (none : Edges) (items : 
 comes-next font first none items written written' edges edges' x y rest behind rest' h e k nodes r =
     let P : Place → Type 0 = λ p. Rewrites font p.written p.edges p.rest nodes in
     h nodes (rw e (next (subst P k r)))
-
-longer : (x : Piece) (xs : List Piece) → x ∷ xs ≡ xs → ⊥
-longer x xs e = omega (arith, ap length e)
-
--- a list from which nothing could be taken is empty
-pub no_more : (xs ys : List Piece) → xs ≡ ys → ys ≡ drop 1 xs → xs ≡ []
-no_more [] ys e k = refl
-no_more (x ∷ xs) ys e k = absurd (longer x xs (e ∙ k))

@@ -1,4 +1,6 @@
+pub mod Cleans
 pub mod Headers
+pub mod Leading
 pub mod Lengths
 pub mod Machine
 pub mod Numbers

@@ -1,8 +1,9 @@
 -- The ligatures and kerns of a run of characters: a list that is rewritten at a cursor. "TeX: The Program", sections 545
 -- and 1029 to 1040; there the list is spread over a part that is finished, a character and a stack of ligatures,
 -- and the edges are `lft_hit` and `rt_hit`.
-use Rattle.std.specs.Prelude.{ℕ, zero, suc, min, Bool, true, false, ◌&&◌, ◌||◌, ℤ, pos, List, [], ◌∷◌, ◌++◌, map, slice_get, Option, None, Some, unwrap_or}
+use Rattle.std.specs.Prelude.{◌≡◌, ℕ, zero, suc, min, Bool, true, false, ◌&&◌, ◌||◌, ℤ, pos, List, [], ◌∷◌, ◌++◌, length, take, map, slice_get, Option, None, Some, unwrap_or}
 use Rattle.etx_matter.specs.declared.node.Node.{Node, Node-F, roll-Node}
+use Rattle.etx_matter.specs.declared.node.LigParts.{LigParts}
 use Rattle.etx_matter.specs.declared.node.KernKind.TheVariants as kern
 use Rattle.etx_matter.specs.declared.sizes.CharSize.{CharSize}
 use Rattle.etx_matter.specs.declared.font.CharInfo.{CharInfo}
@@ -49,6 +50,11 @@ abbrev pub is_end : List Piece → Bool
 is_end [] = true
 is_end (x ∷ rest) = is_right_edge x
 
+-- how a program sees the item at the cursor
+abbrev pub next_item : List Piece → Option LigItem
+next_item [] = None
+next_item (x ∷ rest) = Some (item_of x)
+
 -- a number of a table; places that lead to nothing don't come up in a font
 abbrev pub number_at : List ℤ → ℕ → ℤ
 number_at numbers place = unwrap_or (slice_get numbers place) (pos 0)
@@ -80,14 +86,21 @@ edges_with edges x y = record {
   right = edges.right || opposite (is_left_edge x) && is_right_edge y;
 }
 
+-- the nodes of a letter and of a ligature
+abbrev pub char_of : FontState → ℕ → Node
+char_of font code = roll-Node (Node-F.Char font.number code (size_of font.info code))
+
+abbrev pub lig_of : FontState → ℕ → LigParts → Node
+lig_of font code parts = roll-Node (Node-F.Lig font.number code (size_of font.info code) parts)
+
 -- what an item becomes when the cursor passes it; an edge becomes nothing. A ligature tells of the left edge, and, if it
 -- is the last item of the word, of the right one.
 abbrev pub nodes_of : FontState → Edges → Bool → Piece → List Node
 nodes_of font edges ends LeftEdge = []
 nodes_of font edges ends RightEdge = []
-nodes_of font edges ends (Letter code) = roll-Node (Node-F.Char font.number code (size_of font.info code)) ∷ []
+nodes_of font edges ends (Letter code) = char_of font code ∷ []
 nodes_of font edges ends (Made code letters) =
-    roll-Node (Node-F.Lig font.number code (size_of font.info code) letters edges.left (edges.right && ends)) ∷ []
+    lig_of font code (record { letters = letters; left = edges.left; right = edges.right && ends }) ∷ []
 
 -- the edges of which no node has told when the cursor has passed an item
 abbrev pub edges_behind : Edges → Bool → Piece → Edges
@@ -150,6 +163,11 @@ by_action font written edges x y rest (Some (Ligature code keeps_current keeps_n
     passed font (min passes (kept keeps_current keeps_next)) written (edges_with edges x y)
     (item_if keeps_current x ++ made_of x y code keeps_current keeps_next ∷ (item_if keeps_next y ++ rest))
 
+-- the same where the items behind the one at the cursor are given as a list
+abbrev pub by_next : FontState → List Node → Edges → Piece → List Piece → Option PairAction → Place
+by_next font written edges x [] action = record { written = written; edges = edges; rest = [] }
+by_next font written edges x (y ∷ rest) action = by_action font written edges x y rest action
+
 unfoldable pub stepped : FontState → List Node → Edges → Piece → Piece → List Piece → Place
 stepped font written edges x y rest =
     by_action font written edges x y rest (action_between font.info (item_of x) (item_of y))
@@ -164,6 +182,10 @@ pub data Rewrites (font : FontState) : List Node → Edges → List Piece → Li
 abbrev pub ComesTo : FontState → List Node → Edges → List Piece → List Node → Edges → List Piece → Type 0
 ComesTo font written edges rest written' edges' rest' =
     (nodes : List Node) → Rewrites font written' edges' rest' nodes → Rewrites font written edges rest nodes
+
+-- the new list begins with the old one
+abbrev pub Begins : List Node → List Node → Type 0
+Begins old new = take (length old) new ≡ old
 
 -- the word with the edges that are asked for
 abbrev pub edged : List ℕ → Bool → Bool → List Piece

@@ -1,6 +1,7 @@
 //! The header of a TFM file.
-ghost use Rattle.std.specs.Prelude.{◌≡◌, ◌≤◌, ◌<◌, length, IfSome};
-ghost use Rattle.etx_tfm.specs.Headers.{size_of, header_of};
+ghost use Rattle.std.specs.Prelude.{◌≡◌, ◌≤◌, length, IfSome};
+ghost use Rattle.etx_matter.specs.Soundness.{HasSizes};
+ghost use Rattle.etx_tfm.specs.Headers.{IsSize, size_of, header_of};
 
 use crate::lengths::Lengths;
 use byteorder::{BigEndian, ByteOrder};
@@ -20,9 +21,10 @@ fn size_of(design_size: u32, size: Size) -> u64
 /// What the header says, and the size; `None` exactly where the header is damaged, or the size too large.
 #[tactic(auto, unfolding(crate::specs::Headers::has_bad_header))]
 pub fn read_header(bytes: &[u8], lengths: &Lengths, size: Size) -> Option<FontHeader>
-    requires { 2 ≤ lengths.now.header → 32 ≤ length bytes.now }
+    requires long { 2 ≤ lengths.now.header → 32 ≤ length bytes.now }
+    requires size { IsSize size }
     ensures value { result ≡ header_of bytes.now lengths.now size }
-    ensures small { IfSome result (λ header. header.size < 134217728) }
+    ensures sizes { IfSome result (λ header. HasSizes header) }
 {
     if lengths.header < 2 {
         return None;

@@ -8,6 +8,7 @@
 mod checks;
 mod fault;
 mod header;
+mod law;
 mod lengths;
 mod machine;
 mod numbers;
@@ -15,12 +16,15 @@ mod pairs;
 mod piece;
 mod program;
 mod read;
+mod reading;
+mod rest;
+mod runs;
 mod settle;
 mod tables;
-#[cfg(test)]
-mod tests;
 mod word;
 
 pub use fault::{Damage, FontFault};
-pub use machine::ligkern;
+pub use law::more_depth_changes_nothing;
 pub use read::read_font;
+pub use reading::{CleanPlace, Reading};
+pub use runs::{ligkern, push_ligkern, read_run};

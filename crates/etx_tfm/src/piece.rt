@@ -2,6 +2,7 @@
 ghost use Rattle.std.specs.Prelude.{◌≡◌, ◌++◌, OnOk, IfOk};
 ghost use Rattle.etx_matter.specs.Ligatures.{action_between};
 ghost use Rattle.etx_tfm.specs.Machine.{item_of, letters_of, is_left_edge, is_right_edge, letters_unless, edges_with, made_of};
+ghost use Rattle.etx_tfm.specs.Cleans.{holds_end};
 
 use etx_lists::Bytes;
 use etx_matter::LigItem;
@@ -48,6 +49,17 @@ impl Piece {
         match self {
             Piece::RightEdge => true,
             Piece::LeftEdge | Piece::Letter(_) | Piece::Made { .. } => false,
+        }
+    }
+
+    /// Whether a letter of the word ends here, or its left edge stands here.
+    pub fn holds_end(&self) -> bool
+        ensures { result ≡ holds_end self.now }
+    {
+        match self {
+            Piece::LeftEdge | Piece::Letter(_) => true,
+            Piece::RightEdge => false,
+            Piece::Made { letters, .. } => !letters.is_empty(),
         }
     }
 

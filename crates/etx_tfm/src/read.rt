@@ -1,7 +1,7 @@
 //! A TFM file becomes a font.
 ghost use Rattle.std.specs.Prelude.{◌≡◌, ◌+◌, ◌*◌, ◌≤◌, ◌<◌, Ok, IfOk, IfErr, IfNone, length, false, map};
 ghost use Rattle.std.specs.List.{list_any};
-ghost use Rattle.etx_matter.specs.Soundness.{IsSound};
+ghost use Rattle.etx_matter.specs.Soundness.{IsSound, HasSizes};
 ghost use Rattle.etx_tfm.specs.Headers.{IsSize};
 ghost use Rattle.etx_tfm.specs.Lengths.{is_short, character_count};
 ghost use Rattle.etx_tfm.specs.Tables.{words_in, first_code};
@@ -125,7 +125,7 @@ fn read_checked(
     words: &[Word],
     lengths: &Lengths,
 ) -> Result<Font, FontFault>
-    requires small { header.size < 134217728 }
+    requires sizes { HasSizes header }
     requires codes { first_code lengths.now + character_count lengths.now ≤ 256 }
     ensures font { IfOk result (λ font. IsFontOf font (checked header words.now lengths.now)) }
     ensures fault { IfErr result (λ fault. IsFaultOf fault (checked header words.now lengths.now)) }

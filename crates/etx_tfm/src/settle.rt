@@ -3,8 +3,10 @@ ghost use Rattle.std.specs.Prelude.{◌≡◌, ◌≤◌, ◌+◌, length, is_no
 ghost use Rattle.etx_matter.specs.Soundness.{has_bad_steps};
 ghost use Rattle.etx_matter.specs.Ligatures.{last, any_below, some_item, ligature_count, deepest, comes_round};
 ghost use Rattle.etx_tfm.specs.Pairs.{IsTable};
+ghost use Rattle.etx_tfm.specs.Leading.{leads_on, some_lead};
 
 use crate::checks::has_bad_among;
+use crate::machine::kept;
 use crate::pairs::{End, PAIRS, is_open_between, nothing_known};
 use etx_matter::{FontInfo, LigItem, LigStep, PairAction};
 use std::alloc::{AllocError, Global};
@@ -100,11 +102,47 @@ fn deepest(font: &FontInfo) -> u32
     (PAIRS_OF_A_STEP * count + 1).min(PAIRS) as u32
 }
 
-/// Whether ligatures come round.
+/// Whether what an action makes has to be looked at again with a neighbour.
+fn leads_on(action: PairAction) -> bool
+    ensures { result ≡ leads_on action }
+{
+    match action {
+        PairAction::Kern(_) => false,
+        PairAction::Ligature {
+            keeps_current,
+            keeps_next,
+            passes,
+            ..
+        } => passes < kept(keeps_current, keeps_next),
+    }
+}
+
+/// Whether some step leads on.
+#[tactic(auto, unfolding(crate::specs::Leading::some_lead))]
+fn some_lead(steps: &[LigStep]) -> bool
+    ensures { result ≡ some_lead steps.now }
+{
+    for step in steps {
+        match *step {
+            LigStep::Elsewhere(_) => {}
+            LigStep::Pair { action, .. } => {
+                if leads_on(action) {
+                    return true;
+                }
+            }
+        }
+    }
+    false
+}
+
+/// Whether ligatures come round. Those of most fonts don't lead on, and then no pair has to be looked at.
 #[tactic(auto, unfolding(etx_matter::specs::Ligatures::comes_round))]
 fn comes_round(alloc: Global, font: &FontInfo) -> Result<bool, AllocError>
     ensures { IfOk result (λ round. round ≡ comes_round font.now) }
 {
+    if !some_lead(font.steps.as_slice()) {
+        return Ok(false);
+    }
     let mut known = nothing_known(alloc, PAIRS)?;
     is_open(alloc, font, deepest(font), known.as_mut_slice())
 }

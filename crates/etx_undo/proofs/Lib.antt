@@ -1,2 +1,5 @@
 pub mod Histories
 pub mod Laws
+pub mod Rows
+pub mod Slots
+pub mod Tables

@@ -3,4 +3,4 @@ use Rattle.etx_expand.specs.Getting.{watch_of}
 use Rattle.etx_expand.proofs.get.find_watch.Given as goal
 
 abbrev pub invariant-loop-i : goal.invariant-loop-i
-invariant-loop-i l = watch_of (drop l.i l.scans) ≡ watch_of l.scans
+invariant-loop-i l = watch_of (drop l.i l.entries) ≡ watch_of l.entries

@@ -1,4 +1,4 @@
-use Rattle.std.proofs.Common.{◌≡◌, ◌<◌, ◌≤◌, ◌+◌, true, false, refl, sym, ◌∙◌, ap, arith, rules}
+use Rattle.std.proofs.Common.{◌≡◌, ◌<◌, ◌≤◌, ◌+◌, true, false, refl, ◌∙◌, ap, rules}
 use Rattle.etx_outside.proofs.Outsides.{front_all}
 use Rattle.etx_settle.specs.Deeds.{JournalState}
 use Rattle.etx_matter.specs.declared.end.End.TheVariants.{Hundred}

@@ -1,4 +1,4 @@
-use Rattle.std.proofs.Common.{◌≡◌, [], ◌∷◌, ◌∙◌, ap, List, ℕ}
+use Rattle.std.proofs.Common.{[], ◌∷◌, ◌∙◌, ap, List, ℕ}
 use Rattle.etx_matter.specs.declared.deed.Audience.TheVariants.{LogAndTerminal}
 use Rattle.etx_matter.specs.declared.deed.Deed.TheVariants.{Error}
 use Rattle.etx_job.specs.Chain.{printed, last_line, reason_of}

@@ -1,7 +1,7 @@
-use Rattle.std.proofs.Common.{◌≡◌, [], ◌++◌, List, ℕ, None, refl, sym, ◌∙◌, ap, take, drop, map}
+use Rattle.std.proofs.Common.{[], ◌++◌, List, ℕ, refl, sym, ◌∙◌, ap, take, drop, map}
 use Rattle.std.specs.Prelude.{string_bytes}
 use Rattle.std.proofs.lemmas.List.{append-nil}
-use Rattle.etx_outside.specs.Entries.{Shown, shown, said, asked_in, files_after}
+use Rattle.etx_outside.specs.Entries.{Shown, shown}
 use Rattle.etx_outside.proofs.Fronts.{map_parts, said-shown}
 use Rattle.etx_outside.proofs.Histories.{asked_in-shown, files_after-shown}
 use Rattle.etx_job.specs.Meaning.{usage, usage_line}

@@ -52,4 +52,4 @@ returns-clause-value g c =
     let place = c.loop-first.place in
     sym c.loop-first.invariant.same
     ∙ lexed-none cats (rest_of c.args.line.now place) place.state c.in_default.ensures
-    ∙ lex_same _ _ _ _ _ _ (λ i. LineEnd) (sym (ap (rest_of c.args.line.now) c.place_at.ensures ∙ behind_all c.args.line.now)) (sym (ap (λ (p : LinePlace). p.state) c.place_at.ensures))
+    ∙ lex_same _ _ _ _ _ _ (λ i. LineEnd) (sym (ap (rest_of c.args.line.now) c.place_at.ensures ∙ behind_all c.args.line.now _ c.len.ensures.len)) (sym (ap (λ (p : LinePlace). p.state) c.place_at.ensures))

@@ -10,7 +10,7 @@ use Rattle.etx_lexer.proofs.name.read_name.Goals as goal
 pub returns-in-None : goal.returns-in-None
 returns-in-None g c =
     name-none (g.C.CatOf.category c.args.cats.now) (drop c.args.at c.args.line.now) c.in-None.ensures
-    ∙ named_same _ _ _ _ _ _ (sym c.new.ensures) (sym (ap (rest_of c.args.line.now) c.place_at.ensures ∙ behind_all c.args.line.now)) (sym (ap (λ (p : LinePlace). p.state) c.place_at.ensures))
+    ∙ named_same _ _ _ _ _ _ (sym c.new.ensures) (sym (ap (rest_of c.args.line.now) c.place_at.ensures ∙ behind_all c.args.line.now _ c.len.ensures.len)) (sym (ap (λ (p : LinePlace). p.state) c.place_at.ensures))
 
 pub returns-in-Some : goal.returns-in-Some
 returns-in-Some g c =

@@ -31,6 +31,6 @@ pub returns : goal.returns
 returns g c =
     let over = word-none (g.C.CatOf.category c.args.cats.now) (drop c.loop-first.at c.args.line.now) c.in_default.ensures in (
       sym (append-nil c.loop-first.name) ∙ sym (ap (λ (w : Word). c.loop-first.name ++ w.letters) over) ∙ c.loop-first.invariant.letters,
-      ap (rest_of c.args.line.now) c.place_at-2.ensures ∙ behind_all c.args.line.now ∙ sym (ap (λ (w : Word). w.rest) over) ∙ c.loop-first.invariant.rest,
+      ap (rest_of c.args.line.now) c.place_at-2.ensures ∙ behind_all c.args.line.now _ c.len.ensures.len ∙ sym (ap (λ (w : Word). w.rest) over) ∙ c.loop-first.invariant.rest,
       ap (λ (p : LinePlace). p.state) c.place_at-2.ensures,
     )

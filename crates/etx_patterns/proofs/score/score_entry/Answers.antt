@@ -2,7 +2,8 @@ use Rattle.std.proofs.Common.{◌≡◌, ◌<◌, [], max, length, get_or, sym, 
 use Rattle.std.proofs.lemmas.List.{get_or_read}
 use Rattle.etx_patterns.specs.declared.tables.Pattern.{Pattern}
 use Rattle.etx_patterns.specs.Shapes.{digit_from, shape}
-use Rattle.etx_patterns.specs.Scores.{digit_of_entry, pattern_at}
+use Rattle.etx_patterns.specs.Scores.{digit_of_entry}
+use Rattle.etx_patterns.specs.Tables.{pattern_at}
 use Rattle.etx_patterns.specs.Tree.{entry_at}
 use Rattle.etx_patterns.proofs.Lookups.{entry_pattern}
 use Rattle.etx_patterns.proofs.score.score_entry.Goals as goal

@@ -12,6 +12,7 @@ loop-deed-init g c = record {
   pen = refl;
   opened = c.requires;
   later = search rules;
+  steady = λ _ _. refl;
   written = λ _ _. settling_starts _ _;
 }
 
@@ -42,6 +43,7 @@ loop-deed-preserved g c =
       pen = ap (λ (p : PenState). pen_after_all p rest) c.in_ok-settle.ensures.pen ∙ sym (ap (pen_after_all pen) next) ∙ c.loop-deed.invariant.pen;
       opened = c.in_ok-settle.ensures.open;
       later = search rules;
+      steady = λ a b. c.in_ok-settle.ensures.steady a b ∙ c.loop-deed.invariant.steady a b;
       written = λ a b. settling_goes_on
           (deed_entries pen d)
           (entries c.settle.new.self rest)

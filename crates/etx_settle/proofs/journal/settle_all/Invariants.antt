@@ -13,5 +13,6 @@ invariant-loop-deed g l =
       pen : pen_after_all l.pen (drop l.deed-index l.deeds) ≡ pen_after_all l.fn.pen l.deeds;
       opened : AllOpen (g.F.Tree.is_open l.tree) l.pen.created;
       later : NoneFell (faults l.fn.tree l.fn.terminal) (faults l.tree l.terminal);
+      steady : g.F.Tree.counts_only_faults → g.T.Terminal.counts_only_faults → faults l.tree l.terminal ≡ faults l.fn.tree l.fn.terminal;
       written : g.F.Tree.tells → g.T.Terminal.tells → Settling (entries l.fn.pen l.deeds) (entries l.pen (drop l.deed-index l.deeds)) (seen l.fn.tree l.fn.terminal) (seen l.tree l.terminal);
     }

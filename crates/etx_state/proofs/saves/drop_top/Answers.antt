@@ -1,22 +1,27 @@
-use Rattle.std.proofs.Common.{◌≡◌, ◌-◌, ◌<◌, ap, arith}
-use Rattle.etx_state.specs.Saves.{here, sizes_in}
-use Rattle.etx_state.proofs.Stored.{top_deep, top_count, whole_dropped, dropped_items, sound_here}
+use Rattle.std.proofs.Common.{◌≡◌, ◌≢◌, ◌+◌, ◌-◌, ◌<◌, ◌≤◌, ℕ, List, ◌∷◌, Some, refl, sym, ◌∙◌, ap, subst, arith}
+use Rattle.etx_state.specs.Saves.{cells_of, cells_at, items_of, depth_of, tail_of, values_in, IsTied}
+use Rattle.etx_state.proofs.Stored.{cells_set, cells_same, items_same, items_pushed, items_top_is, items_dropped, top_deep, sound_by, whole_put, whole_push, whole_drop, top_fits, keeps_set, keeps_self, keeps_stack, tied_end, tied_token, tied_undone, tied_backed, kind_all, kind_here, kind_step}
 use Rattle.etx_state.proofs.saves.drop_top.Goals as goal
 
 pub shallower-depth-requires : goal.shallower-depth-requires
-shallower-depth-requires c = rw c.sizes-sizes.ensures (top_deep (here c.args.store.now) _ c.requires.top (sound_here _ c.requires.sound))
+shallower-depth-requires c = top_deep c.args.parts.now _ c.requires.top c.requires.sound
 
-pub overflow_sub-sizes : goal.overflow_sub-sizes
-overflow_sub-sizes c = rw c.sizes-sizes.ensures (omega (arith, top_count (here c.args.store.now) _ c.requires.top))
+pub returns-in_err-drop_last-clause-sound : goal.returns-in_err-drop_last-clause-sound
+returns-in_err-drop_last-clause-sound c = sound_by _ _ _ (items_same c.args.parts.now _ c.in_err-drop_last.ensures.err) (cells_same c.args.parts.now _ refl) c.requires.sound
 
-pub set_slot-requires-clause-whole : goal.set_slot-requires-clause-whole
-set_slot-requires-clause-whole c =
-    let some : 0 < (sizes_in (here c.args.store.now)).count = top_count (here c.args.store.now) _ c.requires.top in
-    let e : c.sizes-sizes.result.count ≡ (sizes_in (here c.args.store.now)).count = ap (λ z. z.count) c.sizes-sizes.ensures in
-    whole_dropped (here c.args.store.now) _ _ c.args.item.now (omega arith) c.requires.top (rw c.sizes-sizes.ensures at c.shallower-depth.ensures) (sound_here _ c.requires.sound) c.requires.tied
+pub returns-in_err-drop_last-clause-kept : goal.returns-in_err-drop_last-clause-kept
+returns-in_err-drop_last-clause-kept c = keeps_stack c.args.parts.now _ refl c.in_err-drop_last.ensures.kept
 
 pub returns-clause-items : goal.returns-clause-items
-returns-clause-items c =
-    let some : 0 < (sizes_in (here c.args.store.now)).count = top_count (here c.args.store.now) _ c.requires.top in
-    let e : c.sizes-sizes.result.count ≡ (sizes_in (here c.args.store.now)).count = ap (λ z. z.count) c.sizes-sizes.ensures in
-    dropped_items (here c.args.store.now) _ (c.sizes-sizes.result.count - 1) _ (omega arith) c.in_ok-set_slot.ensures.ok
+returns-clause-items c = items_dropped c.args.parts.now _ c.in_ok-drop_last.ensures.ok
+
+pub returns-clause-cells : goal.returns-clause-cells
+returns-clause-cells c = cells_same c.args.parts.now _ refl
+
+pub returns-clause-sound : goal.returns-clause-sound
+returns-clause-sound c =
+    sound_by _ _ _ (items_dropped c.args.parts.now _ c.in_ok-drop_last.ensures.ok) (cells_same c.args.parts.now _ refl)
+    (whole_drop _ _ _ _ c.args.item.now c.shallower-depth.ensures c.requires.top c.requires.sound c.requires.tied)
+
+pub returns-clause-kept : goal.returns-clause-kept
+returns-clause-kept c = keeps_stack c.args.parts.now _ refl c.in_ok-drop_last.ensures.kept

@@ -11,7 +11,10 @@ read_header-requires c =
     let n = c.read_lengths-lengths.result in
     let whole = long c.args.bytes.now (sym c.is_short.ensures ∙ c.if-is_short.false) in
     let file : n.file ≡ half_at c.args.bytes.now 0 = ap (λ r. r.file) c.read_lengths-lengths.ensures in
-    holds_header c.args.bytes.now n (omega (arith, whole.file)) (right n (sym c.has_wrong_sizes.ensures ∙ c.if-has_wrong_sizes.false))
+    record {
+      long = holds_header c.args.bytes.now n (omega (arith, whole.file)) (right n (sym c.has_wrong_sizes.ensures ∙ c.if-has_wrong_sizes.false));
+      size = c.requires;
+    }
 
 pub read_checked-requires-clause-codes : goal.read_checked-requires-clause-codes
 read_checked-requires-clause-codes c =

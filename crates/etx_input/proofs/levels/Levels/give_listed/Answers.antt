@@ -1,19 +1,20 @@
-use Rattle.std.proofs.Common.{◌≡◌, ◌-◌, ◌<◌, refl, suc, length, get_or, arith}
-use Rattle.etx_input.specs.declared.level.Level.{Level}
+use Rattle.std.proofs.Common.{◌≡◌, ◌-◌, length}
+use Rattle.etx_input.specs.Marks.{input_of}
 use Rattle.etx_input.proofs.Listed.{innermost_listed}
+use Rattle.etx_input.proofs.Marks.{keeps_by}
+use Rattle.etx_input.proofs.Tops.{top_or, all_counted, free_still}
 use Rattle.etx_input.proofs.levels.Levels.give_listed.Goals as goal
-use Rattle.etx_input.proofs.levels.Levels.give_listed.Goals.{in-None, in-Some}
 
-pub returns : goal.returns
-returns c =
-    let v = c.self.inside.levels in
-    let left = c.self.inside.left in
-    elim c.match-last_mut.branch [
-      | in-None w ↦ rw (w.result-is, w.self-inside-is, ← c.self.view_is) refl
-      | in-Some w ↦
-          let old : Level = w.in-Some.level.now in
-          let all : suc (v.len - 1) ≡ length v.items = omega (arith, w.in-Some.ensures.variant.0 refl, v.ok.0) in
-          let last : old ≡ get_or v.items (v.len - 1) old = w.in-Some.ensures.value in
-          rw (w.result-is, w.self-inside-is, ← c.self.view_is)
-          (innermost_listed w.give_listed.result v.items (v.len - 1) left old w.give_listed.new.self all last w.give_listed.ensures)
-    ]
+pub returns-clause-listed : goal.returns-clause-listed
+unfolding input_of
+returns-clause-listed c =
+    let xs = c.args.self.now.levels.items in
+    let old = c.last_mut.result.now in
+    innermost_listed c.give_listed.result xs (length xs - 1) c.args.self.now.left old c.give_listed.new.self
+    (all_counted xs old c.last_mut.ensures.value) (top_or xs old c.last_mut.ensures.value) c.give_listed.ensures
+
+pub returns-clause-free : goal.returns-clause-free
+returns-clause-free c = free_still c.args.self.now.levels c.give_listed.new.self c.requires
+
+pub returns-clause-kept : goal.returns-clause-kept
+returns-clause-kept c = keeps_by _ _ (c.is_free-free.ensures.changes c.requires c.give_listed.new.self)

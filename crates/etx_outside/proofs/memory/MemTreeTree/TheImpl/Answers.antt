@@ -1,5 +1,5 @@
 use Rattle.std.proofs.Common.{rules}
-use Rattle.etx_outside.proofs.MemTrees.{created, opened, not_created, create_keeps, appended, not_appended, append_keeps}
+use Rattle.etx_outside.proofs.MemTrees.{counts_stay, created, opened, not_created, create_keeps, appended, not_appended, append_keeps}
 use Rattle.etx_outside.proofs.memory.MemTreeTree.TheImpl.Goals as goal
 
 pub create-tells : goal.create-tells
@@ -12,6 +12,7 @@ create-tells c =
       opened = opened c.args.self.now c.new.self.now c.args.name.now c.result told.created;
       «open» = create_keeps c.args.self.now c.new.self.now c.args.name.now c.result told.created told.failed told.out_of_memory;
       later = search rules;
+      steady = counts_stay c.args.self.now c.new.self.now _ c.result told.created;
       cause = search rules;
     }
 
@@ -24,5 +25,6 @@ append-tells c =
       asked = search rules;
       «open» = append_keeps c.args.self.now c.new.self.now c.args.name.now c.requires c.args.bytes.now c.result told.appended told.failed told.out_of_memory;
       later = search rules;
+      steady = counts_stay c.args.self.now c.new.self.now _ c.result told.appended;
       cause = search rules;
     }

@@ -1,8 +1,8 @@
-use Rattle.std.proofs.Common.{◌∙◌, ap}
+use Rattle.std.proofs.Common.{◌≡◌, ◌≢◌, ◌+◌, ◌-◌, ◌<◌, ◌≤◌, ℕ, List, ◌∷◌, Some, refl, sym, ◌∙◌, ap, subst, arith}
 use Rattle.etx_state.specs.Values.{level}
-use Rattle.etx_state.specs.Saves.{values_in}
-use Rattle.etx_state.proofs.Words.{is_level}
+use Rattle.etx_state.specs.Saves.{cells_of, cells_at, items_of, depth_of, tail_of, values_in, IsTied}
+use Rattle.etx_state.proofs.Words.{is_here, is_saved, is_global, is_change, is_begun, is_noted, is_unnoted, is_ended, is_kind, is_kind_in, is_after, is_got, is_got_at, is_level, ties_here, ties_saved, ties_over, deep, at_kept, back_values, back_sound, back_kept, live_place, live_stack, marked_same, marked_values, marked_kept, before_marked, forgot_values, forgot_sound, sound_new, values_new, fits_held, fits_at}
 use Rattle.etx_state.proofs.scopes.Scopes.level.Goals as goal
 
 pub returns : goal.returns
-returns c = ap (λ z. z.depth) c.sizes.ensures ∙ is_level c.self.inside.store c.self.invariant ∙ ap (λ s. level (values_in s)) c.self.view_is
+returns c = is_level c.self.inside.parts c.self.invariant ∙ ap (λ s. level (values_in s)) c.self.view_is

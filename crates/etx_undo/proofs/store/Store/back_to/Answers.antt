@@ -3,4 +3,4 @@ use Rattle.etx_undo.proofs.Histories.{present-back}
 use Rattle.etx_undo.proofs.store.Store.back_to.Goals as goal
 
 pub returns-clause-now : goal.returns-clause-now
-returns-clause-now g c = present-back g.K.Ord.cmp _ _ _ (omega arith) c.loop-mark.invariant.same
+returns-clause-now g c = present-back _ _ _ (omega arith) c.loop-mark.invariant.same

@@ -5,7 +5,7 @@ use Rattle.etx_undo.proofs.store.Store.back_to.Given as goal
 abbrev pub invariant-loop-mark : goal.invariant-loop-mark
 invariant-loop-mark g l = record {
   before : l.mark.place ≤ place l.self;
-  same : SameUpTo g.K.Ord.cmp l.mark.place l.initial.self l.self;
+  same : SameUpTo l.mark.place l.initial.self l.self;
 }
 
 abbrev pub decreases-loop-mark : goal.decreases-loop-mark

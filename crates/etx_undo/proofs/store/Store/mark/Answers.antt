@@ -7,4 +7,4 @@ use Rattle.etx_undo.proofs.store.Store.mark.Goals as goal
 pub returns-clause-now : goal.returns-clause-now
 returns-clause-now g c = λ q.
     let e : c.len.result ≡ place c.args.self.now = rw (← c.self.view_is, length-map) (omega (arith, c.len.ensures, c.self.inside.saved.ok.0)) in
-    rw e (at-place g.K.Ord.cmp c.args.self.now q)
+    rw e (at-place c.args.self.now q)

@@ -1,0 +1,23 @@
+//! Lists become boxes: the glue of a list is set so that it comes to a size ("TeX: The Program", sections 644 to 679).
+//!
+//! All sums are exact, and so is the fraction by which glue is set. Only the sizes of the box that comes out, and the
+//! excess that is reported, are brought into 32 bits where they don't fit.
+#![tactic(auto)]
+
+mod boxes;
+mod fitting;
+mod orders;
+mod packing;
+mod reaches;
+mod spacing;
+#[cfg(test)]
+mod tests;
+mod totals;
+mod walks;
+
+pub use boxes::Packed;
+pub use fitting::within_32_bits;
+pub use orders::OrderTotals;
+pub use packing::{hpack, vpack};
+pub use reaches::{vertical_hang, vertical_length};
+pub use spacing::{SetGlue, list_growth};

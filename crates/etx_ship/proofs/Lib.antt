@@ -1,0 +1,5 @@
+pub mod Defining
+pub mod Drawing
+pub mod Keeping
+pub mod Paging
+pub mod Shipping

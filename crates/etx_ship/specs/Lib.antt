@@ -1,0 +1,10 @@
+pub mod Copies
+pub mod Files
+pub mod Hands
+pub mod Items
+pub mod Kept
+pub mod Pages
+pub mod Pens
+pub mod Places
+pub mod Spots
+pub mod Texts

@@ -1,5 +1,0 @@
-use Rattle.etx_state.proofs.Naming.{fresh_none}
-use Rattle.etx_state.proofs.state.State.open.Goals as goal
-
-pub add-requires-clause-fresh : goal.add-requires-clause-fresh
-add-requires-clause-fresh c = rw c.new-names.ensures (fresh_none _)

@@ -1,0 +1,29 @@
+use Rattle.std.proofs.Common.{◌∷◌, ◌∙◌, ap, sym}
+use Rattle.etx_tfm.specs.Machine.{no_edges, edged}
+use Rattle.etx_tfm.proofs.Passing.{comes-over, comes-last}
+use Rattle.etx_tfm.proofs.Running.{comes-step, falls-step, no_next}
+use Rattle.etx_tfm.proofs.Beginnings.{begins-over}
+use Rattle.etx_tfm.proofs.runs.push_ligkern.Goals as goal
+
+pub returns-in-None-clause-ok : goal.returns-in-None-clause-ok
+returns-in-None-clause-ok c =
+    comes-over c.args.font.now c.args.out.now no_edges (edged c.args.chars.now c.args.left c.args.right) c.steps.out c.steps.edges c.steps.rest.items c.steps.invariant.comes c.in-None.ensures.0
+
+pub returns-in-None-next_item-clause-ok : goal.returns-in-None-next_item-clause-ok
+returns-in-None-next_item-clause-ok c =
+    comes-last c.args.font.now c.args.out.now no_edges (edged c.args.chars.now c.args.left c.args.right) c.steps.out c.write.new.out c.steps.edges c.in-Some.current c.steps.rest.items c.steps.invariant.comes
+    (c.in-Some.ensures.0 ∙ ap (λ rest. c.in-Some.current ∷ rest) (no_next c.pop.new.self.items (sym c.in-None-next_item.ensures))) c.in_ok-write-in-None-next_item.ensures.nodes
+
+pub steps-smaller : goal.steps-smaller
+steps-smaller c =
+    falls-step c.args.font.now c.steps.out c.step.new.out c.steps.edges c.step.new.edges c.in-Some.current c.steps.rest.items c.pop.new.self.items c.step.new.rest.items
+    c.in-Some-next_item.next c.action_at-action.result c.action_at-action.ensures.sound c.in-Some.ensures.0 (sym c.in-Some-next_item.ensures)
+    c.in_ok-step-in-Some-next_item.ensures.ok c.action_at-action.ensures.action
+
+pub steps-preserved : goal.steps-preserved
+steps-preserved c = record {
+  comes = comes-step c.args.font.now c.args.out.now no_edges (edged c.args.chars.now c.args.left c.args.right) c.steps.out c.step.new.out c.steps.edges c.step.new.edges c.in-Some.current c.steps.rest.items c.pop.new.self.items
+      c.step.new.rest.items c.in-Some-next_item.next c.action_at-action.result c.steps.invariant.comes c.in-Some.ensures.0 (sym c.in-Some-next_item.ensures)
+      c.in_ok-step-in-Some-next_item.ensures.ok c.action_at-action.ensures.action;
+  begins = begins-over c.args.out.now c.steps.out c.step.new.out c.steps.invariant.begins c.in_ok-step-in-Some-next_item.ensures.begins;
+}

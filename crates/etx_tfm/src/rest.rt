@@ -1,0 +1,130 @@
+//! The items of a word from the cursor on.
+ghost use Rattle.std.specs.Prelude.{◌≡◌, ◌+◌, ◌-◌, ◌∷◌, ◌==◌, [], MatchOption, OnOk, OnErr};
+ghost use Rattle.etx_tfm.specs.Machine.{edged, is_end, next_item};
+ghost use Rattle.etx_tfm.specs.Cleans.{letters_in};
+
+use crate::piece::Piece;
+use etx_matter::LigItem;
+use std::alloc::{AllocError, Global};
+use std::marker::Model;
+
+/// The items of a word from the cursor on. Those that a ligature has touched stand in front: it made them, or looked at
+/// them and kept them. The others are as they came: the left edge, letters, and the right edge.
+///
+/// Contracts see the list of the items, and how many of them are touched.
+#[derive(Drop)]
+pub struct Rest<'a> {
+    /// The touched ones, the first one last.
+    touched: Vec<Piece>,
+    left: bool,
+    letters: &'a [u8],
+    right: bool,
+}
+
+impl<'a> Model for Rest<'a> {
+    ghost use Rattle.std.specs.Prelude.{length};
+    ghost use Rattle.etx_tfm.specs.Cleans.{RestState};
+
+    ghost Value = { RestState };
+
+    ghost use Rattle.etx_tfm.specs.Machine.{edged};
+    ghost use Rattle.etx_tfm.specs.Cleans.{turned_behind};
+
+    ghost view = { λ it. record { items = turned_behind it.touched.items (edged it.letters.now it.left it.right); touched = length it.touched.items } };
+}
+
+impl<'a> Rest<'a> {
+    /// A word with the edges that are asked for. Takes no memory.
+    pub fn new(alloc: Global, letters: &'a [u8], left: bool, right: bool) -> Rest<'a>
+        ensures { result ≡ record { items = edged letters.now left right; touched = 0 } }
+    {
+        Rest {
+            touched: Vec::new(alloc),
+            left,
+            letters,
+            right,
+        }
+    }
+
+    /// Takes the item at the cursor.
+    pub fn pop(&mut self) -> Option<Piece>
+        ensures { MatchOption result
+            ((self.old.items ≡ []) × (self.old.touched ≡ 0) × (self.new ≡ self.old))
+            (λ item. (self.old.items ≡ item ∷ self.new.items) × (self.new.touched ≡ self.old.touched - 1)) }
+    {
+        if let Some(piece) = self.touched.pop() {
+            return Some(piece);
+        }
+        if self.left {
+            self.left = false;
+            return Some(Piece::LeftEdge);
+        }
+        if let [code, behind @ ..] = self.letters {
+            self.letters = behind;
+            return Some(Piece::Letter(*code));
+        }
+        if self.right {
+            self.right = false;
+            return Some(Piece::RightEdge);
+        }
+        None
+    }
+
+    /// Puts an item at the cursor, which is touched.
+    pub fn push(&mut self, piece: Piece) -> Result<(), AllocError>
+        ensures ok { OnOk result (self.new ≡ record { items = piece ∷ self.old.items; touched = self.old.touched + 1 }) }
+        ensures err { OnErr result (self.new ≡ self.old) }
+    {
+        self.touched.push(piece)?;
+        Ok(())
+    }
+
+    /// How a program sees the item at the cursor.
+    pub fn next_item(&self) -> Option<LigItem>
+        ensures { result ≡ next_item self.now.items }
+    {
+        let count = self.touched.len();
+        if count > 0 {
+            return Some(self.touched[count - 1].item());
+        }
+        if self.left {
+            return Some(LigItem::Boundary);
+        }
+        if let [code, ..] = self.letters {
+            return Some(LigItem::Glyph(*code));
+        }
+        if self.right {
+            return Some(LigItem::Boundary);
+        }
+        None
+    }
+
+    /// Whether nothing stands from the cursor on but the right edge.
+    pub fn is_end(&self) -> bool
+        ensures { result ≡ is_end self.now.items }
+    {
+        let count = self.touched.len();
+        if count > 0 {
+            return self.touched[count - 1].is_right_edge();
+        }
+        if self.left {
+            return false;
+        }
+        self.letters.is_empty()
+    }
+
+    /// Whether no item is touched.
+    pub fn is_untouched(&self) -> bool
+        ensures { result ≡ (self.now.touched == 0) }
+    {
+        self.touched.is_empty()
+    }
+
+    /// How many letters the items stand for, none of which is touched.
+    pub fn letter_count(&self) -> usize
+        requires { self.now.touched ≡ 0 }
+        ensures { result ≡ letters_in self.now.items }
+    {
+        self.letters.len()
+    }
+}
