@@ -12,9 +12,10 @@ use Rattle.etx_pack.specs.declared.orders.OrderTotals.{OrderTotals}
 use Rattle.etx_pack.specs.declared.fitting.Packing.{Packing}
 use Rattle.etx_pack.specs.declared.fitting.Fit.{Fit}
 
--- a size that 32 bits don't hold is the greatest or the least that they do
+-- A sum is exact, and stored as a size of -(2^31 - 1) to 2^31 - 1 sp: one beyond that as the nearest of these. So the
+-- negative of what is stored is a size, too.
 unfoldable pub within_32_bits : ℤ → ℤ
-within_32_bits z = int_min (int_max z (negsuc 2_147_483_647)) (pos 2_147_483_647)
+within_32_bits z = int_min (int_max z (negsuc 2_147_483_646)) (pos 2_147_483_647)
 
 abbrev pub is_zero : ℤ → Bool
 is_zero (pos zero) = true
@@ -56,10 +57,12 @@ is_judged p Filll = false
 abbrev pub quiet : GlueSetting → Fit
 quiet set = record { set = set; badness = pos 0; report = None; rule = None }
 
+-- how bad it is to set glue of which there is `total` so that it comes to `need` more or less, both as they would be stored
 unfoldable pub badness_between : ℤ → ℤ → ℤ
 badness_between need total = pos (badness_of (unsigned_abs (within_32_bits need)) (within_32_bits total))
 
--- sections 660 and 674
+-- A list that stretches is told of where its badness is above the limit: as underfull where it is above 100, and else as
+-- loose (sections 660 and 674).
 unfoldable pub stretch_report : Packing → ℤ → Option Report
 stretch_report p badness =
     if int_lt p.limits.badness badness then Some (record {
@@ -68,12 +71,12 @@ stretch_report p badness =
       number = badness;
     }) else None
 
--- sections 667 and 678
+-- a list that shrinks is told of as tight where its badness is above the limit (sections 667 and 678)
 unfoldable pub shrink_report : Packing → ℤ → Option Report
 shrink_report p badness =
     if int_lt p.limits.badness badness then Some (record { kind = Tight; vertical = p.vertical; number = badness }) else None
 
--- a box that is too full by `over` is told of where that is more than the fuzz, or where all that isn't good is told of
+-- a box that is too full by `over` is told of where that is more than the fuzz, or where the limit on badness is below 100
 -- (sections 666 and 677)
 unfoldable pub overfull_report : Packing → ℤ → Option Report
 overfull_report p over =

@@ -18,31 +18,31 @@ abbrev pub LeaderLayer : Type 0
 LeaderLayer = Leader-F Field Leader Noad Node BoxNode Discretionary InnerList Insertion UnsetBox
 
 -- the sizes of what fills a glue
-abbrev pub leader_layer_width : LeaderLayer → ℤ
-leader_layer_width (Leader-F.Ruled size) = size_or_zero size.width
-leader_layer_width (Leader-F.Boxes kind item) = item.width
+abbrev pub filler_layer_width : LeaderLayer → ℤ
+filler_layer_width (Leader-F.Ruled size) = size_or_zero size.width
+filler_layer_width (Leader-F.Boxes kind item) = item.width
 
-abbrev pub leader_layer_height : LeaderLayer → ℤ
-leader_layer_height (Leader-F.Ruled size) = size_or_zero size.height
-leader_layer_height (Leader-F.Boxes kind item) = item.height
+abbrev pub filler_layer_height : LeaderLayer → ℤ
+filler_layer_height (Leader-F.Ruled size) = size_or_zero size.height
+filler_layer_height (Leader-F.Boxes kind item) = item.height
 
-abbrev pub leader_layer_depth : LeaderLayer → ℤ
-leader_layer_depth (Leader-F.Ruled size) = size_or_zero size.depth
-leader_layer_depth (Leader-F.Boxes kind item) = item.depth
+abbrev pub filler_layer_depth : LeaderLayer → ℤ
+filler_layer_depth (Leader-F.Ruled size) = size_or_zero size.depth
+filler_layer_depth (Leader-F.Boxes kind item) = item.depth
 
-unfoldable pub leader_width : Leader → ℤ
-leader_width leader = leader_layer_width (out-Leader leader)
+unfoldable pub filler_width : Leader → ℤ
+filler_width leader = filler_layer_width (out-Leader leader)
 
-unfoldable pub leader_height : Leader → ℤ
-leader_height leader = leader_layer_height (out-Leader leader)
+unfoldable pub filler_height : Leader → ℤ
+filler_height leader = filler_layer_height (out-Leader leader)
 
-unfoldable pub leader_depth : Leader → ℤ
-leader_depth leader = leader_layer_depth (out-Leader leader)
+unfoldable pub filler_depth : Leader → ℤ
+filler_depth leader = filler_layer_depth (out-Leader leader)
 
 abbrev pub layer_rise : NodeLayer → ℤ
 layer_rise (Node-F.Char font code size) = size.height
 layer_rise (Node-F.Lig font code size parts) = size.height
-layer_rise (Node-F.Leaders glue leader) = leader_height leader
+layer_rise (Node-F.Leaders glue leader) = filler_height leader
 layer_rise (Node-F.Rule size) = size_or_zero size.height
 layer_rise (Node-F.Box it) = it.height -ℤ it.shift
 layer_rise (Node-F.Unset it) = it.height
@@ -51,14 +51,14 @@ layer_rise _ = pos 0
 abbrev pub layer_fall : NodeLayer → ℤ
 layer_fall (Node-F.Char font code size) = size.depth
 layer_fall (Node-F.Lig font code size parts) = size.depth
-layer_fall (Node-F.Leaders glue leader) = leader_depth leader
+layer_fall (Node-F.Leaders glue leader) = filler_depth leader
 layer_fall (Node-F.Rule size) = size_or_zero size.depth
 layer_fall (Node-F.Box it) = it.depth +ℤ it.shift
 layer_fall (Node-F.Unset it) = it.depth
 layer_fall _ = pos 0
 
 abbrev pub layer_breadth : NodeLayer → ℤ
-layer_breadth (Node-F.Leaders glue leader) = leader_width leader
+layer_breadth (Node-F.Leaders glue leader) = filler_width leader
 layer_breadth (Node-F.Rule size) = size_or_zero size.width
 layer_breadth (Node-F.Box it) = it.width +ℤ it.shift
 layer_breadth (Node-F.Unset it) = it.width

@@ -1,5 +1,5 @@
 //! How the glue of a list is set, and what is reported of it.
-ghost use Rattle.std.specs.Prelude.{◌≡◌, ◌≤◌, ◌<◌, ◌+◌, ◌^◌, pos, ◌<ℤ◌, unsigned_abs};
+ghost use Rattle.std.specs.Prelude.{◌≡◌, ◌≤◌, ◌<◌, ◌+◌, ◌^◌, pos, ◌≤ℤ◌, ◌<ℤ◌, unsigned_abs};
 ghost use Rattle.etx_pack.specs.Sums.{Small4};
 ghost use Rattle.etx_pack.specs.Fits.{within_32_bits, fraction, quiet, is_judged, badness_between, stretch_report, shrink_report, overfull_report, overfull_rule, overfull, stretched, shrunk_finitely, shrunk, fitted};
 
@@ -28,16 +28,16 @@ pub(crate) struct Fit {
 /// The badness of an overfull box.
 const OVERFULL: i32 = 1_000_000;
 
-/// The badness from which on a box that stretches counts as underfull, and not as loose; and below which as `\hbadness`
-/// it asks for a report of each overfull box.
-const GOOD: i32 = 100;
+/// The greatest badness of a box that stretches and is loose: above it the box is underfull. A limit on badness below it
+/// has each overfull box told of.
+const LOOSE: i32 = 100;
 
-/// The nearest size that 32 bits hold, in sp.
+/// A sum of sizes, in sp, as it is stored: the nearest of -(2^31 - 1) to 2^31 - 1. Its negative can be stored, too.
 #[tactic(auto, unfolding(crate::specs::Fits::within_32_bits))]
-pub fn within_32_bits(size: i64) -> i32
+pub fn within_32_bits(size: i128) -> i32
     ensures { result ≡ within_32_bits size }
 {
-    size.max(i64::from(i32::MIN)).min(i64::from(i32::MAX)) as i32
+    size.max(i128::from(-i32::MAX)).min(i128::from(i32::MAX)) as i32
 }
 
 /// Glue of which there is `total` takes up `need`.
@@ -56,12 +56,18 @@ fn fraction(stretching: bool, order: GlueOrder, need: i64, total: i64) -> GlueSe
     }
 }
 
+/// The badness of glue of which there is `total` sp and which has to come to `need` sp more, or less: of both as they
+/// would be stored.
 #[tactic(auto, unfolding(crate::specs::Fits::badness_between, crate::specs::Fits::within_32_bits))]
-fn badness_between(need: i64, total: i64) -> i32
-    requires { pos 0 <ℤ need }
-    ensures { result ≡ badness_between need total }
+pub fn badness_between(need: i64, total: i64) -> i32
+    requires { pos 0 ≤ℤ need }
+    ensures value { result ≡ badness_between need total }
+    ensures sign { pos 0 ≤ℤ result }
 {
-    badness(within_32_bits(need), within_32_bits(total))
+    badness(
+        within_32_bits(i128::from(need)),
+        within_32_bits(i128::from(total)),
+    )
 }
 
 impl Fit {
@@ -94,7 +100,7 @@ impl Packing {
         ensures { result ≡ stretch_report self badness }
     {
         if badness > self.limits.badness {
-            let kind = if badness > GOOD {
+            let kind = if badness > LOOSE {
                 ReportKind::Underfull
             } else {
                 ReportKind::Loose
@@ -131,8 +137,8 @@ impl Packing {
     fn overfull_report(self, over: i64) -> Option<Report>
         ensures { result ≡ overfull_report self over }
     {
-        if over > i64::from(self.limits.fuzz) || self.limits.badness < GOOD {
-            Some(self.report(ReportKind::Overfull, within_32_bits(over)))
+        if over > i64::from(self.limits.fuzz) || self.limits.badness < LOOSE {
+            Some(self.report(ReportKind::Overfull, within_32_bits(i128::from(over))))
         } else {
             None
         }

@@ -98,9 +98,9 @@ fn horizontal_box_sizes(goal: Goal, natural: HorizontalSizes) -> BoxSizes
     ensures { result ≡ horizontal_box_sizes goal natural }
 {
     BoxSizes {
-        width: within_32_bits(goal_size(goal, natural.along.size)),
-        height: within_32_bits(natural.height),
-        depth: within_32_bits(natural.depth),
+        width: within_32_bits(i128::from(goal_size(goal, natural.along.size))),
+        height: within_32_bits(i128::from(natural.height)),
+        depth: within_32_bits(i128::from(natural.depth)),
     }
 }
 
@@ -157,8 +157,8 @@ fn vertical_box_sizes(goal: Goal, max_depth: i32, natural: VerticalSizes) -> Box
     ensures { result ≡ vertical_box_sizes goal max_depth natural }
 {
     BoxSizes {
-        width: within_32_bits(natural.width),
-        height: within_32_bits(goal_size(goal, vertical_height(max_depth, natural))),
+        width: within_32_bits(i128::from(natural.width)),
+        height: within_32_bits(i128::from(goal_size(goal, vertical_height(max_depth, natural)))),
         depth: vertical_depth(max_depth, natural),
     }
 }

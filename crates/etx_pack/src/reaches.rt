@@ -1,12 +1,12 @@
 //! What a node takes along the list in which it stands, and how far it reaches across it.
 ghost use Rattle.std.specs.Prelude.{◌≡◌, ◌≤◌, ◌+ℤ◌, unsigned_abs};
-ghost use Rattle.etx_pack.specs.Reaches.{leader_width, leader_height, leader_depth, rise_of, fall_of, breadth_of, length_of, hang_under};
+ghost use Rattle.etx_pack.specs.Reaches.{filler_width, filler_height, filler_depth, rise_of, fall_of, breadth_of, length_of, hang_under};
 
 use etx_matter::{Leader, Node};
 
-#[tactic(auto, unfolding(crate::specs::Reaches::leader_width))]
-fn leader_width(leader: &Leader) -> i32
-    ensures { result ≡ leader_width leader.now }
+#[tactic(auto, unfolding(crate::specs::Reaches::filler_width))]
+fn filler_width(leader: &Leader) -> i32
+    ensures { result ≡ filler_width leader.now }
 {
     match leader {
         Leader::Ruled(size) => size.width.unwrap_or(0),
@@ -14,9 +14,9 @@ fn leader_width(leader: &Leader) -> i32
     }
 }
 
-#[tactic(auto, unfolding(crate::specs::Reaches::leader_height))]
-fn leader_height(leader: &Leader) -> i32
-    ensures { result ≡ leader_height leader.now }
+#[tactic(auto, unfolding(crate::specs::Reaches::filler_height))]
+fn filler_height(leader: &Leader) -> i32
+    ensures { result ≡ filler_height leader.now }
 {
     match leader {
         Leader::Ruled(size) => size.height.unwrap_or(0),
@@ -24,9 +24,9 @@ fn leader_height(leader: &Leader) -> i32
     }
 }
 
-#[tactic(auto, unfolding(crate::specs::Reaches::leader_depth))]
-fn leader_depth(leader: &Leader) -> i32
-    ensures { result ≡ leader_depth leader.now }
+#[tactic(auto, unfolding(crate::specs::Reaches::filler_depth))]
+fn filler_depth(leader: &Leader) -> i32
+    ensures { result ≡ filler_depth leader.now }
 {
     match leader {
         Leader::Ruled(size) => size.depth.unwrap_or(0),
@@ -41,7 +41,7 @@ pub(crate) fn rise(node: &Node) -> i64
 {
     match node {
         Node::Char { size, .. } | Node::Lig { size, .. } => i64::from(size.height),
-        Node::Leaders { leader, .. } => i64::from(leader_height(leader.get())),
+        Node::Leaders { leader, .. } => i64::from(filler_height(leader.get())),
         Node::Rule(size) => i64::from(size.height.unwrap_or(0)),
         Node::Box(it) => i64::from(it.get().height) - i64::from(it.get().shift),
         Node::Unset(it) => i64::from(it.get().height),
@@ -56,7 +56,7 @@ pub(crate) fn fall(node: &Node) -> i64
 {
     match node {
         Node::Char { size, .. } | Node::Lig { size, .. } => i64::from(size.depth),
-        Node::Leaders { leader, .. } => i64::from(leader_depth(leader.get())),
+        Node::Leaders { leader, .. } => i64::from(filler_depth(leader.get())),
         Node::Rule(size) => i64::from(size.depth.unwrap_or(0)),
         Node::Box(it) => i64::from(it.get().depth) + i64::from(it.get().shift),
         Node::Unset(it) => i64::from(it.get().depth),
@@ -70,7 +70,7 @@ pub(crate) fn breadth(node: &Node) -> i64
     ensures { result ≡ breadth_of node.now }
 {
     match node {
-        Node::Leaders { leader, .. } => i64::from(leader_width(leader.get())),
+        Node::Leaders { leader, .. } => i64::from(filler_width(leader.get())),
         Node::Rule(size) => i64::from(size.width.unwrap_or(0)),
         Node::Box(it) => i64::from(it.get().width) + i64::from(it.get().shift),
         Node::Unset(it) => i64::from(it.get().width),

@@ -4,10 +4,10 @@
 ghost use Rattle.std.specs.Prelude.{IfOk};
 ghost use Rattle.etx_matter.specs.Nests.{IsNested, AreNested};
 
-use crate::{Packed, hpack, list_growth, vpack};
+use crate::{Packed, growth, hpack, pull, vpack};
 use etx_matter::{
-    BoxNode, CharSize, Glue, GlueOrder, GlueSet, Goal, Limits, Node, Nodes, Report, ReportKind,
-    RuleSize,
+    BoxNode, CharSize, Glue, GlueOrder, GlueSet, Goal, KernKind, Limits, Node, Nodes, Report,
+    ReportKind, RuleSize,
 };
 use std::alloc::{AllocError, Global};
 use std::test::Fail;
@@ -120,25 +120,46 @@ fn what_hangs_too_deep_belongs_to_the_height(rt: HostRuntime) -> Result<(), Fail
     Ok(())
 }
 
-fn thirds(alloc: Global, count: u32) -> Result<Nodes, AllocError> {
+/// Three kerns of the least size that TeX knows.
+fn least_kerns(alloc: Global) -> Result<Nodes, AllocError>
+    ensures { IfOk result (λ it. AreNested it) }
+{
     let mut list = Nodes::new(alloc);
-    for _ in 0..count {
-        list.push(Node::Glue(Glue {
-            width: 0,
-            stretch: 1,
-            shrink: 0,
-            stretch_order: GlueOrder::Fil,
-            shrink_order: GlueOrder::Normal,
-        }))?;
-    }
+    list.push(least_kern())?;
+    list.push(least_kern())?;
+    list.push(least_kern())?;
     Ok(list)
+}
+
+fn least_kern() -> Node
+    ensures { IsNested result }
+{
+    Node::Kern {
+        width: -1_073_741_823,
+        kind: KernKind::Explicit,
+    }
+}
+
+#[test]
+fn the_least_size_has_a_negative(rt: HostRuntime) -> Result<(), Fail> {
+    let line = hpack(least_kerns(rt.alloc())?, Goal::Natural, NO_LIMITS)?;
+    assert!(rt; line.node.width == -2_147_483_647);
+    let column = vpack(least_kerns(rt.alloc())?, Goal::Natural, 0, NO_LIMITS);
+    assert!(rt; column.node.height == -2_147_483_647);
+    Ok(())
 }
 
 #[test]
 fn glue_is_rounded_by_its_sum(rt: HostRuntime) -> Result<(), Fail> {
     let set = GlueSet::new(true, GlueOrder::Fil, 1, 3);
-    assert!(rt; list_growth(&thirds(rt.alloc(), 1)?, set) == 0);
-    assert!(rt; list_growth(&thirds(rt.alloc(), 2)?, set) == 1);
-    assert!(rt; list_growth(&thirds(rt.alloc(), 3)?, set) == 1);
+    let glue = Glue {
+        width: 0,
+        stretch: 1,
+        shrink: 0,
+        stretch_order: GlueOrder::Fil,
+        shrink_order: GlueOrder::Normal,
+    };
+    assert!(rt; pull(&set, &glue) == 1);
+    assert!(rt; growth(&set, 1) == 0 && growth(&set, 2) == 1 && growth(&set, 3) == 1);
     Ok(())
 }

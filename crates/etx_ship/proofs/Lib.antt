@@ -1,5 +1,6 @@
 pub mod Defining
 pub mod Drawing
 pub mod Keeping
+pub mod Marks
 pub mod Paging
 pub mod Shipping

@@ -27,8 +27,8 @@ abbrev pub count : ℕ → ℕ → ℕ → ℕ
 count room first step = if nat_le first room then (room - first) / step + 1 else 0
 
 -- the boxes, each of this size, in a room that begins here, in a list that begins at the edge
-abbrev pub fitted : LeaderKind → ℤ → ℤ → ℕ → ℕ → Repeats
-fitted kind edge from room size =
+abbrev pub row_of : LeaderKind → ℤ → ℤ → ℕ → ℕ → Repeats
+row_of kind edge from room size =
     let before = offset kind (edge -ℤ from) room size in
     let step = distance kind room size in
     record { first = from +ℤ pos before; step = pos step; count = count room (before + size) step }
@@ -36,7 +36,7 @@ fitted kind edge from room size =
 -- Leaders fill a gap of more than nothing by boxes of more than nothing. The room is 10 sp greater than the gap.
 unfoldable pub copies_of : LeaderKind → ℤ → ℤ → ℤ → ℤ → Repeats
 copies_of kind edge from gap size =
-    if is_positive size && is_positive gap then fitted kind edge from (unsigned_abs gap + 10) (unsigned_abs size)
+    if is_positive size && is_positive gap then row_of kind edge from (unsigned_abs gap + 10) (unsigned_abs size)
     else record { first = from; step = pos 0; count = 0 }
 
 abbrev pub behind_first : Repeats → Repeats

@@ -9,9 +9,9 @@ use Rattle.etx_ship.specs.Pens.{definition_of}
 use Rattle.etx_ship.specs.declared.state.DviFont.{DviFont}
 use Rattle.etx_ship.specs.declared.state.Numbers.{Numbers}
 
--- the bytes and the pages that it has, where the last page begins, or -1, the greatest height plus depth and the greatest
--- width of a page, the most pushes that were open, the fonts that are loaded, in the order of their numbers, and for each
--- whether it is used, and the magnification
+-- the bytes and the pages that it has, where the last page begins, or -1, the greatest height plus depth of a page with
+-- its `\voffset` and the greatest width of one with its `\hoffset`, each at least 0, the most pushes that were open, the
+-- fonts that are loaded, in the order of their numbers, and for each whether it is used, and the magnification
 pub record FileState : Type 0 where
   pub bytes : ℕ
   pub pages : ℕ

@@ -3,10 +3,11 @@ use Rattle.std.specs.Prelude.{◌≡◌, ℕ, zero, suc, ◌+◌, max, if◌then
 use Rattle.etx_dvi.specs.Commands.{bytes_of}
 use Rattle.etx_dvi.specs.declared.command.Dvi.{Dvi}
 use Rattle.etx_dvi.specs.declared.command.Dvi.TheVariants.{SetChar, SetRule, PutRule, Special}
+use Rattle.etx_pack.specs.Fits.{within_32_bits}
 use Rattle.etx_ship.specs.Items as to
 use Rattle.etx_ship.specs.Items.{Item}
 use Rattle.etx_ship.specs.Kept.{is_push, is_pop}
-use Rattle.etx_ship.specs.Pens.{Pen, within, right, down, chosen, used_with, right_of, first_or, behind_first}
+use Rattle.etx_ship.specs.Pens.{Pen, right, down, chosen, used_with, right_of, first_or, behind_first}
 use Rattle.etx_ship.specs.Places.{Step}
 use Rattle.etx_ship.specs.declared.place.Point.{Point}
 use Rattle.etx_ship.specs.declared.place.Spot.{Spot}
@@ -73,10 +74,10 @@ unfoldable pub with_letter : ℕ → ℕ → ℤ → Point → Hand → Hand
 with_letter number code width at x = with_letter_of (slice_get x.fonts number) number code width at x
 
 unfoldable pub with_bar : ℤ → ℤ → Point → Hand → Hand
-with_bar height width at x = put_at (right_of at width) (wrote_command (SetRule (within height) (within width)) (reached at x))
+with_bar height width at x = put_at (right_of at width) (wrote_command (SetRule (within_32_bits height) (within_32_bits width)) (reached at x))
 
 unfoldable pub with_block : ℤ → ℤ → Point → Hand → Hand
-with_block height width at x = wrote_command (PutRule (within height) (within width)) (reached at x)
+with_block height width at x = wrote_command (PutRule (within_32_bits height) (within_32_bits width)) (reached at x)
 
 unfoldable pub with_note : List ℕ → Point → Hand → Hand
 with_note text at x = wrote_command (Special text) (reached at x)

@@ -8,3 +8,4 @@ pub mod Pens
 pub mod Places
 pub mod Spots
 pub mod Texts
+pub mod Wholes

@@ -16,7 +16,7 @@ use Rattle.etx_ship.specs.declared.fault.ShipFault.{ShipFault}
 use Rattle.etx_ship.specs.declared.state.Numbers.{Numbers}
 use Rattle.etx_ship.specs.declared.fault.ShipFault.TheVariants.{Huge, Full, OutOfMemory}
 
--- a page: a box, the ten counts that name it, and by how much it is moved right and down.
+-- a page: a box, the ten counts that name it, and by how much it is moved right (`\hoffset`) and down (`\voffset`)
 pub record Page : Type 0 where
   pub it : BoxNode
   pub counts : List ℤ
@@ -26,7 +26,7 @@ pub record Page : Type 0 where
 abbrev pub page_of : BoxNode → List ℤ → ℤ → ℤ → Page
 page_of it counts right down = record { it = it; counts = counts; right = right; down = down }
 
--- the height plus depth and the width that the page takes
+-- the height plus depth and the width that the page takes, with how far it is moved
 abbrev pub tall : Page → ℤ
 tall page = (page.it.height +ℤ page.it.depth) +ℤ page.down
 

@@ -1,9 +1,9 @@
 -- The commands that put things at their places ("TeX: The Program", sections 607, 616, 620 to 633 and 1368; movements
--- are never told by a register).
+-- are never told by a register). A movement, or a size of a rule, is written as it would be stored.
 use Rattle.std.specs.Prelude.{ℕ, zero, suc, ◌+◌, max, ◌==◌, if◌then◌else◌, Bool, true, false, Option, None, Some, ℤ, pos, negsuc, ◌+ℤ◌, ◌-ℤ◌, List, [], ◌∷◌, ◌++◌, length, slice_get, slice_index_or, slice_set}
-use Rattle.std.specs.Int.{int_max, int_min}
 use Rattle.etx_dvi.specs.declared.command.Dvi.{Dvi}
 use Rattle.etx_dvi.specs.declared.command.Dvi.TheVariants.{SetChar, SetRule, PutRule, Push, Pop, Right, Down, FontNumber, Special, FontDefinition}
+use Rattle.etx_pack.specs.Fits.{within_32_bits}
 use Rattle.etx_ship.specs.Items as to
 use Rattle.etx_ship.specs.Items.{Item}
 use Rattle.etx_ship.specs.declared.place.Point.{Point}
@@ -18,19 +18,15 @@ pub record Pen : Type 0 where
   pub saved : List Point
   pub most : ℕ
 
--- brought into -(2^31 - 1) to 2^31 - 1
-abbrev pub within : ℤ → ℤ
-within z = int_min (int_max z (negsuc 2147483646)) (pos 2147483647)
-
 abbrev pub right : ℤ → List Dvi
 right (pos zero) = []
-right (pos (suc n)) = Right (within (pos (suc n))) ∷ []
-right (negsuc n) = Right (within (negsuc n)) ∷ []
+right (pos (suc n)) = Right (within_32_bits (pos (suc n))) ∷ []
+right (negsuc n) = Right (within_32_bits (negsuc n)) ∷ []
 
 abbrev pub down : ℤ → List Dvi
 down (pos zero) = []
-down (pos (suc n)) = Down (within (pos (suc n))) ∷ []
-down (negsuc n) = Down (within (negsuc n)) ∷ []
+down (pos (suc n)) = Down (within_32_bits (pos (suc n))) ∷ []
+down (negsuc n) = Down (within_32_bits (negsuc n)) ∷ []
 
 -- first across, then down
 abbrev pub reach : Point → Pen → List Dvi
@@ -81,8 +77,8 @@ behind_first (p ∷ ps) = ps
 -- the commands of one thing
 unfoldable pub commands : List DviFont → Item → Pen → List Dvi
 commands fonts (to.Letter number code width at) pen = letter (slice_get fonts number) number code at pen
-commands fonts (to.Bar height width at) pen = reach at pen ++ (SetRule (within height) (within width) ∷ [])
-commands fonts (to.Block height width at) pen = reach at pen ++ (PutRule (within height) (within width) ∷ [])
+commands fonts (to.Bar height width at) pen = reach at pen ++ (SetRule (within_32_bits height) (within_32_bits width) ∷ [])
+commands fonts (to.Block height width at) pen = reach at pen ++ (PutRule (within_32_bits height) (within_32_bits width) ∷ [])
 commands fonts (to.Note text at) pen = reach at pen ++ (Special text ∷ [])
 commands fonts (to.Across h) pen = right (h -ℤ pen.at.h)
 commands fonts (to.Down v) pen = down (v -ℤ pen.at.v)

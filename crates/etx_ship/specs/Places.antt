@@ -44,8 +44,9 @@ pub record Shown : Type 0 where
   pub empty : Bool
   pub at : Point → List Item
 
-abbrev pub nothing : Spot → Step
-nothing next = record { items = []; next = next }
+-- no item, and the next one begins here
+abbrev pub no_item : Spot → Step
+no_item next = record { items = []; next = next }
 
 abbrev pub is_empty : {A : Type 0} → List A → Bool
 is_empty [] = true
@@ -58,7 +59,7 @@ here f s = record { h = if f.vertical then f.side else place s; v = if f.vertica
 -- no character stands in a vertical list
 unfoldable pub letter_step : ℕ → ℕ → CharSize → Moves
 letter_step font code size f s =
-    if f.vertical then nothing s
+    if f.vertical then no_item s
     else record { items = Letter font code size.width (here f s) ∷ []; next = moved size.width s }
 
 -- a size that runs is that of the box around the rule
@@ -140,16 +141,16 @@ abbrev pub gap : Spot → Spot → ℤ
 gap s t = place t -ℤ place s
 
 -- a rule that fills the gap, whose other sizes are these
-abbrev pub column : ℤ → Leads
-column width f s t = block f (gap s t) width (place s)
+abbrev pub ruled_down : ℤ → Leads
+ruled_down width f s t = block f (gap s t) width (place s)
 
-abbrev pub line : ℤ → ℤ → Leads
-line height depth f s t = bar f height depth (gap s t) (place s)
+abbrev pub ruled_across : ℤ → ℤ → Leads
+ruled_across height depth f s t = bar f height depth (gap s t) (place s)
 
 unfoldable pub ruled : RuleSize → Leads
 ruled size f s t =
-    if f.vertical then column (size_or f.width size.width) f s t
-    else line (size_or f.height size.height) (size_or f.depth size.depth) f s t
+    if f.vertical then ruled_down (size_or f.width size.width) f s t
+    else ruled_across (size_or f.height size.height) (size_or f.depth size.depth) f s t
 
 abbrev pub length_along : Bool → Shown → ℤ
 length_along vertical it = if vertical then it.height +ℤ it.depth else it.width
@@ -161,10 +162,10 @@ filled kind it f s t =
 
 unfoldable pub what_step : What → Moves
 what_step (Special text) f s = record { items = Note text (here f s) ∷ []; next = s }
-what_step (OpenFile stream name) f s = nothing s
-what_step (Write stream tokens) f s = nothing s
-what_step (CloseFile stream) f s = nothing s
-what_step (Language language left right) f s = nothing s
+what_step (OpenFile stream name) f s = no_item s
+what_step (Write stream tokens) f s = no_item s
+what_step (CloseFile stream) f s = no_item s
+what_step (Language language left right) f s = no_item s
 
 -- the items of a list, one behind the other
 abbrev pub along : List Moves → Frame → Spot → List Item
@@ -186,14 +187,14 @@ noad_layer _ = tt
 abbrev pub node_layer : Node-F (Unit {0}) Leads (Unit {0}) Moves Shown (Unit {0}) (List Moves) (Unit {0}) (Unit {0}) → Moves
 node_layer (Node-F.Char font code size) f s = letter_step font code size f s
 node_layer (Node-F.Lig font code size parts) f s = letter_step font code size f s
-node_layer (Node-F.Kern width kind) f s = nothing (moved width s)
-node_layer (Node-F.Glue glue) f s = nothing (glued f.set glue s)
+node_layer (Node-F.Kern width kind) f s = no_item (moved width s)
+node_layer (Node-F.Glue glue) f s = no_item (glued f.set glue s)
 node_layer (Node-F.Leaders glue leader) f s = record { items = leader f s (glued f.set glue s); next = glued f.set glue s }
 node_layer (Node-F.Rule size) f s = rule_step size f s
 node_layer (Node-F.Box it) f s = box_step it f s
 node_layer (Node-F.What what) f s = what_step what f s
-node_layer (Node-F.Math on width) f s = nothing (if f.vertical then s else moved width s)
-node_layer _ f s = nothing s
+node_layer (Node-F.Math on width) f s = no_item (if f.vertical then s else moved width s)
+node_layer _ f s = no_item s
 
 abbrev pub box_layer : BoxNode-F (Unit {0}) Leads (Unit {0}) Moves Shown (Unit {0}) (List Moves) (Unit {0}) (Unit {0}) → Shown
 box_layer it = record {

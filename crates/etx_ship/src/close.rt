@@ -4,6 +4,7 @@ ghost use Rattle.std.specs.List.{flat_map};
 ghost use Rattle.etx_dvi.specs.Commands.{bytes_of};
 ghost use Rattle.etx_ship.specs.Files.{definitions, ending, postamble, file_of, post_of};
 ghost use Rattle.etx_ship.specs.Pens.{is_used};
+ghost use Rattle.etx_ship.specs.Wholes.{bytes_behind};
 
 use crate::pen::definition;
 use crate::state::{DviFont, DviState, Numbers};
@@ -11,11 +12,14 @@ use etx_dvi::{Dvi, put, put_tail};
 use std::alloc::{AllocError, Global};
 
 /// The postamble of a file, which stands behind its last page ("TeX: The Program", section 642). A file without a page
-/// has none.
+/// has none. Nothing is refused but for want of memory.
+#[tactic(auto, unfolding(crate::specs::Wholes::bytes_behind))]
 pub fn finish(alloc: Global, file: &DviState) -> Result<Vec<u8>, AllocError>
-    ensures { IfOk result (λ bytes. bytes.items ≡ postamble file.now) }
+    ensures value { IfOk result (λ bytes. bytes.items ≡ postamble file.now) }
+    ensures whole { IfOk result (λ bytes. bytes_behind file.now [] ≡ bytes.items) }
 {
-    postamble_of(alloc, &file.numbers(), file.loaded(), file.used())
+    let bytes = postamble_of(alloc, &file.numbers(), file.loaded(), file.used())?;
+    Ok(bytes)
 }
 
 /// The postamble of a file of these numbers and fonts.

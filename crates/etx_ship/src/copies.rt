@@ -1,6 +1,6 @@
 //! How often and where leaders repeat their box.
 ghost use Rattle.std.specs.Prelude.{◌≡◌, ◌<◌, ◌≤◌, ◌^◌, ◌+◌, ℤ, pos, ◌-ℤ◌, ◌<ℤ◌, unsigned_abs, IfOk};
-ghost use Rattle.etx_ship.specs.Copies.{spread, offset, distance, count, copies_of, fitted, behind_first};
+ghost use Rattle.etx_ship.specs.Copies.{spread, offset, distance, count, copies_of, row_of, behind_first};
 
 use crate::place::{minus, plus};
 use etx_matter::LeaderKind;
@@ -9,8 +9,8 @@ use std::alloc::AllocError;
 /// The boxes of leaders: where the first begins, in sp, how far the next is behind it, and how many there are.
 #[derive(Clone, Copy)]
 pub(crate) struct Repeats {
-    pub first: i64,
-    pub step: i64,
+    pub first: i128,
+    pub step: i128,
     pub count: u64,
 }
 
@@ -38,7 +38,7 @@ fn spread_of(room: u64, size: u64) -> u64
 }
 
 // How far the first box stands behind the beginning of the room, which is so far behind the edge.
-fn offset_of(kind: LeaderKind, behind: i64, room: u64, size: u64) -> u64
+fn offset_of(kind: LeaderKind, behind: i128, room: u64, size: u64) -> u64
     requires some { 0 < size }
     requires small { size < 2 ^ 33 }
     requires short { room < 2 ^ 62 }
@@ -46,7 +46,7 @@ fn offset_of(kind: LeaderKind, behind: i64, room: u64, size: u64) -> u64
     ensures small { result ≤ room + size }
 {
     match kind {
-        LeaderKind::Aligned => behind.rem_euclid(size as i64) as u64,
+        LeaderKind::Aligned => behind.rem_euclid(size as i128) as u64,
         LeaderKind::Centered => room % size / 2,
         LeaderKind::Expanded => {
             let inner = (room / size).saturating_sub(1) * spread_of(room, size);
@@ -83,32 +83,35 @@ fn count_of(room: u64, first: u64, step: u64) -> u64
 
 fn fit(
     kind: LeaderKind,
-    behind: i64,
-    from: i64,
+    behind: i128,
+    from: i128,
     room: u64,
     size: u64,
 ) -> Result<Repeats, AllocError>
     requires some { 0 < size }
     requires small { size < 2 ^ 33 }
     requires short { room < 2 ^ 62 }
-    ensures { IfOk result (λ copies. (edge : ℤ) → behind ≡ edge -ℤ from → copies ≡ fitted kind edge from room size) }
+    ensures { IfOk result (λ copies. (edge : ℤ) → behind ≡ edge -ℤ from → copies ≡ row_of kind edge from room size) }
 {
     let before = offset_of(kind, behind, room, size);
     let step = distance_of(kind, room, size);
     Ok(Repeats {
-        first: plus(from, before as i64)?,
-        step: step as i64,
+        first: plus(from, before as i128)?,
+        step: step as i128,
         count: count_of(room, before + size, step),
     })
 }
 
 /// The boxes of this size that fill a gap which begins at `from`, in a list that begins at `edge`.
+///
+/// A gap is a glue's width and the difference of two growths, so at most 2^31 + 2 * 10^9 sp. One of 2^62 sp would be refused
+/// as memory is.
 #[tactic(auto, unfolding(crate::specs::Copies::copies_of))]
 pub(crate) fn copies(
     kind: LeaderKind,
-    edge: i64,
-    from: i64,
-    gap: i64,
+    edge: i128,
+    from: i128,
+    gap: i128,
     size: i64,
 ) -> Result<Repeats, AllocError>
     requires { size <ℤ pos (2 ^ 33) }
@@ -119,7 +122,13 @@ pub(crate) fn copies(
         if room >= 4_611_686_018_427_387_904 {
             return Err(AllocError);
         }
-        fit(kind, minus(edge, from)?, from, room, size.unsigned_abs())
+        fit(
+            kind,
+            minus(edge, from)?,
+            from,
+            room as u64,
+            size.unsigned_abs(),
+        )
     } else {
         Ok(Repeats {
             first: from,

@@ -50,7 +50,7 @@ fn draw_node(pen: &mut Pen<'_>, node: &Node, frame: &Frame, spot: Spot) -> Resul
             size,
             ..
         } => draw_letter(pen, *font, *code, size, frame, spot),
-        Node::Kern { width, .. } => spot.moved(*width as i64),
+        Node::Kern { width, .. } => spot.moved(*width as i128),
         Node::Glue(glue) => spot.glued(&frame.set, glue),
         Node::Leaders { glue, leader } => {
             let end = spot.glued(&frame.set, glue)?;
@@ -64,7 +64,7 @@ fn draw_node(pen: &mut Pen<'_>, node: &Node, frame: &Frame, spot: Spot) -> Resul
             if frame.vertical {
                 Ok(spot)
             } else {
-                spot.moved(*width as i64)
+                spot.moved(*width as i128)
             }
         }
         Node::Penalty(_)
@@ -111,24 +111,24 @@ fn draw_letter(
     }
     let at = point_of(frame, spot)?;
     pen.letter(font, code, size, at)?;
-    spot.moved(size.width as i64)
+    spot.moved(size.width as i128)
 }
 
 /// The sizes of a rule, none of which runs.
 #[derive(Clone, Copy)]
 pub(crate) struct Solid {
-    pub width: i64,
-    pub height: i64,
-    pub depth: i64,
+    pub width: i128,
+    pub height: i128,
+    pub depth: i128,
 }
 
 // A size that runs is that of the box around it.
-fn size_of(around: i32, size: Option<i32>) -> i64
+fn size_of(around: i32, size: Option<i32>) -> i128
     ensures { result ≡ size_or around size }
 {
     match size {
-        Some(size) => size as i64,
-        None => around as i64,
+        Some(size) => size as i128,
+        None => around as i128,
     }
 }
 
@@ -146,7 +146,7 @@ pub(crate) fn solid_of(size: &RuleSize, frame: &Frame) -> Solid
 }
 
 // Whether a rule has a size.
-fn is_solid(thick: i64, width: i64) -> bool
+fn is_solid(thick: i128, width: i128) -> bool
     ensures { result ≡ (is_positive thick && is_positive width) }
 {
     thick > 0 && width > 0
@@ -247,10 +247,10 @@ fn is_empty_box(it: &BoxNode) -> bool
 
 // The height and the depth of a box together.
 #[tactic(auto, unfolding(crate::specs::Places::box_shown))]
-fn tall_of(it: &BoxNode) -> i64
+fn tall_of(it: &BoxNode) -> i128
     ensures { result ≡ (box_shown it.now).height +ℤ (box_shown it.now).depth }
 {
-    it.height as i64 + it.depth as i64
+    it.height as i128 + it.depth as i128
 }
 
 // Where a box stands in a vertical list.
@@ -259,8 +259,8 @@ fn lower_point(it: &BoxNode, frame: &Frame, spot: Spot) -> Result<Point, AllocEr
     ensures { IfOk result (λ at. at ≡ record { h = frame.now.side +ℤ (box_shown it.now).shift; v = place spot +ℤ (box_shown it.now).height }) }
 {
     Ok(Point {
-        h: plus(frame.side, it.shift as i64)?,
-        v: plus(spot.place()?, it.height as i64)?,
+        h: plus(frame.side, it.shift as i128)?,
+        v: plus(spot.place()?, it.height as i128)?,
     })
 }
 
@@ -334,9 +334,9 @@ fn draw_beside(
 {
     let at = Point {
         h: spot.place()?,
-        v: plus(frame.side, it.shift as i64)?,
+        v: plus(frame.side, it.shift as i128)?,
     };
-    let next = spot.moved(it.width as i64)?;
+    let next = spot.moved(it.width as i128)?;
     draw_any(pen, it, at)?;
     Ok(next)
 }

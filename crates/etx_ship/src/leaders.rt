@@ -1,7 +1,7 @@
 //! What fills the space of a glue.
 ghost use Rattle.std.specs.Prelude.{◌≡◌, ◌^◌, pos, ◌<ℤ◌, OnOk};
 ghost use Rattle.etx_ship.specs.Hands.{drawn};
-ghost use Rattle.etx_ship.specs.Places.{ruled, column, line, filled, copy_at, repeated, box_shown, leader_leads, length_along};
+ghost use Rattle.etx_ship.specs.Places.{ruled, ruled_down, ruled_across, filled, copy_at, repeated, box_shown, leader_leads, length_along};
 
 use crate::copies::{Repeats, copies};
 use crate::draw::{Solid, draw_bar, draw_block, draw_boxed, solid_of};
@@ -40,21 +40,21 @@ fn draw_ruled(
 {
     let size = solid_of(size, frame);
     if frame.vertical {
-        draw_column(pen, size, frame, start, end)
+        draw_ruled_down(pen, size, frame, start, end)
     } else {
-        draw_line(pen, size, frame, start, end)
+        draw_ruled_across(pen, size, frame, start, end)
     }
 }
 
 // A rule that is as high as the space.
-fn draw_column(
+fn draw_ruled_down(
     pen: &mut Pen<'_>,
     size: Solid,
     frame: &Frame,
     start: Spot,
     end: Spot,
 ) -> Result<(), AllocError>
-    ensures { OnOk result (pen.new ≡ drawn (column size.width frame.now start end) pen.old) }
+    ensures { OnOk result (pen.new ≡ drawn (ruled_down size.width frame.now start end) pen.old) }
 {
     let from = start.place()?;
     let gap = minus(end.place()?, from)?;
@@ -71,14 +71,14 @@ fn draw_column(
 }
 
 // A rule that is as wide as the space.
-fn draw_line(
+fn draw_ruled_across(
     pen: &mut Pen<'_>,
     size: Solid,
     frame: &Frame,
     start: Spot,
     end: Spot,
 ) -> Result<(), AllocError>
-    ensures { OnOk result (pen.new ≡ drawn (line size.height size.depth frame.now start end) pen.old) }
+    ensures { OnOk result (pen.new ≡ drawn (ruled_across size.height size.depth frame.now start end) pen.old) }
 {
     let from = start.place()?;
     let gap = minus(end.place()?, from)?;
@@ -137,8 +137,8 @@ fn draw_copy(pen: &mut Pen<'_>, it: &BoxNode, frame: &Frame, row: Repeats) -> Re
 {
     if frame.vertical {
         let at = Point {
-            h: plus(frame.side, it.shift as i64)?,
-            v: plus(row.first, it.height as i64)?,
+            h: plus(frame.side, it.shift as i128)?,
+            v: plus(row.first, it.height as i128)?,
         };
         pen.go_right(at.h)?;
         pen.go_down(at.v)?;
@@ -146,7 +146,7 @@ fn draw_copy(pen: &mut Pen<'_>, it: &BoxNode, frame: &Frame, row: Repeats) -> Re
     } else {
         let at = Point {
             h: row.first,
-            v: plus(frame.side, it.shift as i64)?,
+            v: plus(frame.side, it.shift as i128)?,
         };
         pen.go_down(at.v)?;
         pen.go_right(at.h)?;

@@ -1,5 +1,5 @@
 //! A page is shipped.
-ghost use Rattle.std.specs.Prelude.{◌≡◌, ◌≤◌, ◌+◌, false, ℤ, pos, ◌+ℤ◌, ◌≤ℤ◌, ◌||◌, List, [], length, IfOk, OnOk, OnErr};
+ghost use Rattle.std.specs.Prelude.{◌≡◌, ◌≤◌, ◌+◌, false, ℤ, pos, ◌+ℤ◌, ◌≤ℤ◌, ◌||◌, List, [], ◌∷◌, ◌++◌, length, IfOk, OnOk, OnErr};
 ghost use Rattle.std.specs.Int.{int_max};
 ghost use Rattle.std.specs.List.{flat_map};
 ghost use Rattle.etx_dvi.specs.Commands.{bytes_of};
@@ -8,6 +8,7 @@ ghost use Rattle.etx_ship.specs.Files.{file_of};
 ghost use Rattle.etx_ship.specs.Hands.{wrote_command, drawn};
 ghost use Rattle.etx_ship.specs.Pens.{after_all};
 ghost use Rattle.etx_ship.specs.Places.{places_of};
+ghost use Rattle.etx_ship.specs.Wholes.{Event, Ship, bytes_behind};
 ghost use Rattle.etx_dvi.specs.declared.command.Dvi.TheVariants.{Bop, Eop};
 
 use crate::close::postamble_of;
@@ -27,12 +28,13 @@ const MOST_BYTES: u64 = 2_147_483_647;
 const GREATEST: i64 = 1_073_741_823;
 
 /// The bytes of a page, which stand behind those that the file has: those of the first page begin the file. The page is
-/// the box `b`, moved right and down by the `offset`, and is named by the ten `counts`.
+/// the box `b`, moved right and down by the two numbers of `offset` (`\hoffset` and `\voffset`, in sp), and is named by the
+/// ten `counts`.
 ///
 /// Refused, in this order: `Huge` exactly where the height or the depth of the box, or both together and the offset down,
 /// or its width and the offset to the right, is more than 2^30 - 1 sp ("TeX: The Program", section 641); `Full` exactly
-/// where the file with this page and its postamble would have more than 2147483647 bytes. After an `Err` the state is as
-/// before.
+/// where the file with this page and its postamble would have more than 2147483647 bytes. Besides, memory can be wanting.
+/// After an `Err` the state is as before.
 pub fn ship(
     alloc: Global,
     b: &BoxNode,
@@ -42,6 +44,7 @@ pub fn ship(
 ) -> Result<Vec<u8>, ShipFault>
     ensures bytes { IfOk result (λ bytes. bytes.items ≡ page_bytes file.old (page_of b.now counts offset.0 offset.1)) }
     ensures ok { IfOk result (λ bytes. file.new ≡ shipped file.old (page_of b.now counts offset.0 offset.1)) }
+    ensures whole { IfOk result (λ bytes. (events : List Event) → bytes_behind file.old (Ship (page_of b.now counts offset.0 offset.1) ∷ events) ≡ bytes.items ++ bytes_behind file.new events) }
     ensures err { OnErr result (file.new ≡ file.old) }
     ensures answer { AnswersBy (refusal file.old (page_of b.now counts offset.0 offset.1)) result }
 {
@@ -121,8 +124,8 @@ fn origin(b: &BoxNode, offset: (i32, i32)) -> Point
     ensures { result ≡ record { h = offset.0; v = b.now.height +ℤ offset.1 } }
 {
     Point {
-        h: offset.0 as i64,
-        v: b.height as i64 + offset.1 as i64,
+        h: offset.0 as i128,
+        v: b.height as i128 + offset.1 as i128,
     }
 }
 
@@ -175,6 +178,7 @@ fn draw_page(
     ensures bytes { IfOk result (λ page. page.bytes.items ≡ page_bytes file.now (page_of b.now counts.now offset.0 offset.1)) }
     ensures place { IfOk result (λ page. page.place ≡ file.now.bytes + length (page_bytes file.now (page_of b.now counts.now offset.0 offset.1))) }
     ensures used { IfOk result (λ page. page.used.items ≡ (after_all file.now.fonts (page_items (page_of b.now counts.now offset.0 offset.1)) (fresh file.now.used)).used) }
+    ensures marks { IfOk result (λ page. length page.used.items ≡ length file.now.fonts) }
     ensures most { IfOk result (λ page. page.most ≡ (after_all file.now.fonts (page_items (page_of b.now counts.now offset.0 offset.1)) (fresh file.now.used)).most) }
 {
     let mut pen = Pen::new(alloc, file.loaded(), file.used())?;

@@ -4,13 +4,14 @@ ghost use Rattle.std.specs.Option.{option_copied};
 ghost use Rattle.std.specs.Int.{w32};
 ghost use Rattle.etx_ship.specs.Hands.{wrote_command, gone_right, gone_down, reached, with_font, first_hand, with_letter, with_letter_of, with_bar, with_block, with_note, opened, closed};
 ghost use Rattle.etx_ship.specs.Pages.{fresh};
-ghost use Rattle.etx_ship.specs.Pens.{within, is_chosen, is_used, definition_of};
+ghost use Rattle.etx_ship.specs.Pens.{is_chosen, is_used, definition_of};
 
 use crate::place::{Extent, Point, minus};
 use crate::state::DviFont;
 use etx_dvi::{Dvi, FontName, put};
 use etx_lists::Bytes;
 use etx_matter::CharSize;
+use etx_pack::within_32_bits;
 use std::alloc::{AllocError, Global};
 use std::marker::Model;
 
@@ -39,13 +40,6 @@ impl<'a> Model for Pen<'a> {
     ghost Value = { Hand };
 
     ghost view = { λ it. record { fonts = it.fonts.now; ink = record { out = it.out.items; waiting = it.waiting }; pen = record { at = it.at; font = it.font; used = it.used.items; saved = reverse it.saved.items; most = it.most } } };
-}
-
-// Brought into the range of a command's number.
-fn in_range(number: i64) -> i32
-    ensures { result ≡ within number }
-{
-    number.max(-2147483647).min(2147483647) as i32
 }
 
 pub(crate) fn definition(alloc: Global, number: u8, font: &DviFont) -> Result<Dvi, AllocError>
@@ -132,12 +126,12 @@ impl<'a> Pen<'a> {
 
     /// Goes to a place across.
     #[tactic(auto, unfolding(crate::specs::Hands::gone_right, crate::specs::Hands::wrote_command, crate::specs::Hands::inked))]
-    pub(crate) fn go_right(&mut self, h: i64) -> Result<(), AllocError>
+    pub(crate) fn go_right(&mut self, h: i128) -> Result<(), AllocError>
         ensures { OnOk result (self.new ≡ gone_right h self.old) }
     {
         let by = minus(h, self.at.h)?;
         if by != 0 {
-            self.write(&Dvi::Right(in_range(by)))?;
+            self.write(&Dvi::Right(within_32_bits(by)))?;
         }
         self.at.h = h;
         Ok(())
@@ -145,12 +139,12 @@ impl<'a> Pen<'a> {
 
     /// Goes to a place down.
     #[tactic(auto, unfolding(crate::specs::Hands::gone_down, crate::specs::Hands::wrote_command, crate::specs::Hands::inked))]
-    pub(crate) fn go_down(&mut self, v: i64) -> Result<(), AllocError>
+    pub(crate) fn go_down(&mut self, v: i128) -> Result<(), AllocError>
         ensures { OnOk result (self.new ≡ gone_down v self.old) }
     {
         let by = minus(v, self.at.v)?;
         if by != 0 {
-            self.write(&Dvi::Down(in_range(by)))?;
+            self.write(&Dvi::Down(within_32_bits(by)))?;
         }
         self.at.v = v;
         Ok(())
@@ -234,7 +228,7 @@ impl<'a> Pen<'a> {
     ) -> Result<(), AllocError>
         ensures { OnOk result (self.new ≡ with_letter_of (Some font.now) number code size.now.width at self.old) }
     {
-        let next = at.right_of(size.width as i64)?;
+        let next = at.right_of(size.width as i128)?;
         self.reach(at)?;
         self.choose(number, font)?;
         self.write(&Dvi::SetChar(code))?;
@@ -250,8 +244,8 @@ impl<'a> Pen<'a> {
         let next = at.right_of(size.width)?;
         self.reach(at)?;
         let rule = Dvi::SetRule {
-            height: in_range(size.height),
-            width: in_range(size.width),
+            height: within_32_bits(size.height),
+            width: within_32_bits(size.width),
         };
         self.write(&rule)?;
         self.at = next;
@@ -265,8 +259,8 @@ impl<'a> Pen<'a> {
     {
         self.reach(at)?;
         let rule = Dvi::PutRule {
-            height: in_range(size.height),
-            width: in_range(size.width),
+            height: within_32_bits(size.height),
+            width: within_32_bits(size.width),
         };
         self.write(&rule)
     }

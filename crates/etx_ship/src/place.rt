@@ -1,24 +1,24 @@
 //! Places on a page, in sp, right of and below its upper left corner.
-ghost use Rattle.std.specs.Prelude.{ℕ, ◌≡◌, ◌==◌, ℤ, pos, ◌+ℤ◌, ◌-ℤ◌, ◌*ℤ◌, ◌≤ℤ◌, if◌then◌else◌, IfOk};
+ghost use Rattle.std.specs.Prelude.{◌≡◌, ◌+ℤ◌, ◌-ℤ◌, if◌then◌else◌, IfOk};
 ghost use Rattle.etx_ship.specs.Pens.{right_of};
-ghost use Rattle.etx_ship.specs.Spots.{place, moved, glued, rank, pull, set_by, frame_of, start_of};
+ghost use Rattle.etx_ship.specs.Spots.{place, moved, glued, frame_of, start_of};
 
-use etx_matter::{BoxNode, Glue, GlueOrder, GlueSet};
-use etx_scaled::Ratio;
+use etx_matter::{BoxNode, Glue, GlueSet};
+use etx_pack::{growth, pull};
 use std::alloc::AllocError;
 
 /// A place of a page.
 #[derive(Clone, Copy)]
 pub(crate) struct Point {
-    pub h: i64,
-    pub v: i64,
+    pub h: i128,
+    pub v: i128,
 }
 
 /// The sizes of a rule.
 #[derive(Clone, Copy)]
 pub(crate) struct Extent {
-    pub height: i64,
-    pub width: i64,
+    pub height: i128,
+    pub width: i128,
 }
 
 /// A box that is being shipped: its sizes, how its glue is set, and where it stands.
@@ -30,24 +30,25 @@ pub(crate) struct Frame {
     pub depth: i32,
     pub set: GlueSet,
     /// Where its list begins: its left edge, or in a vertical box its upper one.
-    pub edge: i64,
+    pub edge: i128,
     /// The baseline of a horizontal box, or the left edge of a vertical one.
-    pub side: i64,
+    pub side: i128,
 }
 
 /// How far the list of a box has come.
 #[derive(Clone, Copy)]
 pub(crate) struct Spot {
     /// Where the next item would begin, had all glue its natural size.
-    pub natural: i64,
+    pub natural: i128,
     /// The stretch of the governing order up to here, or where the box shrinks its shrink with a minus sign.
     pub total: i64,
     /// By how much that sets the glue up to here: the item begins so much behind `natural`.
     pub set: i64,
 }
 
-/// A sum of places. One that passes 63 bits is refused as memory is: no memory holds a page that has such a place.
-pub(crate) fn plus(a: i64, b: i64) -> Result<i64, AllocError>
+/// A sum of places. One that passes 127 bits is refused as memory is. A box puts its items, at most 2^30, within 2^63 sp of
+/// its own place, so boxes would have to be nested 2^64 deep for such a place, and no memory holds them.
+pub(crate) fn plus(a: i128, b: i128) -> Result<i128, AllocError>
     ensures { IfOk result (λ sum. sum ≡ a +ℤ b) }
 {
     match a.checked_add(b) {
@@ -57,7 +58,7 @@ pub(crate) fn plus(a: i64, b: i64) -> Result<i64, AllocError>
 }
 
 /// A difference of places, refused as [`plus`] is.
-pub(crate) fn minus(a: i64, b: i64) -> Result<i64, AllocError>
+pub(crate) fn minus(a: i128, b: i128) -> Result<i128, AllocError>
     ensures { IfOk result (λ rest. rest ≡ a -ℤ b) }
 {
     match a.checked_sub(b) {
@@ -66,9 +67,19 @@ pub(crate) fn minus(a: i64, b: i64) -> Result<i64, AllocError>
     }
 }
 
+// A sum of stretch or shrink, refused as [`plus`] is. The at most 2^30 items of a list have none beyond 63 bits.
+fn sum_of(a: i64, b: i64) -> Result<i64, AllocError>
+    ensures { IfOk result (λ sum. sum ≡ a +ℤ b) }
+{
+    match a.checked_add(b) {
+        Some(sum) => Ok(sum),
+        None => Err(AllocError),
+    }
+}
+
 impl Point {
     /// The place behind something of this width.
-    pub(crate) fn right_of(self, width: i64) -> Result<Point, AllocError>
+    pub(crate) fn right_of(self, width: i128) -> Result<Point, AllocError>
         ensures { IfOk result (λ at. at ≡ right_of self width) }
     {
         Ok(Point {
@@ -78,64 +89,19 @@ impl Point {
     }
 }
 
-// The order of infinity as a number.
-fn number_of(order: GlueOrder) -> u8
-    ensures { result ≡ rank order }
-{
-    match order {
-        GlueOrder::Normal => 0,
-        GlueOrder::Fil => 1,
-        GlueOrder::Fill => 2,
-        GlueOrder::Filll => 3,
-    }
-}
-
-fn governs(set: &GlueSet, order: GlueOrder) -> bool
-    ensures { result ≡ (rank set.now.order == rank order) }
-{
-    number_of(set.order()) == number_of(order)
-}
-
-fn pull_of(set: &GlueSet, glue: &Glue) -> i64
-    ensures { result ≡ pull set.now glue.now }
-{
-    if set.is_stretching() {
-        if governs(set, glue.stretch_order) {
-            glue.stretch as i64
-        } else {
-            0
-        }
-    } else if governs(set, glue.shrink_order) {
-        -(glue.shrink as i64)
-    } else {
-        0
-    }
-}
-
-// By how much a sum of stretch or shrink is set.
-fn set_of(set: &GlueSet, total: i64) -> i64
-    ensures { result ≡ set_by set.now total }
-{
-    let ratio = Ratio {
-        num: set.num(),
-        den: set.den(),
-    };
-    ratio.of(total)
-}
-
 // Where the list of a box begins.
-fn edge_of(it: &BoxNode, at: Point) -> Result<i64, AllocError>
+fn edge_of(it: &BoxNode, at: Point) -> Result<i128, AllocError>
     ensures { IfOk result (λ edge. edge ≡ (if it.now.vertical then at.v -ℤ it.now.height else at.h)) }
 {
     if it.vertical {
-        minus(at.v, it.height as i64)
+        minus(at.v, it.height as i128)
     } else {
         Ok(at.h)
     }
 }
 
 // Beside which place its list stands.
-fn side_of(it: &BoxNode, at: Point) -> i64
+fn side_of(it: &BoxNode, at: Point) -> i128
     ensures { result ≡ (if it.now.vertical then at.h else at.v) }
 {
     if it.vertical { at.h } else { at.v }
@@ -172,14 +138,14 @@ impl Frame {
 }
 
 impl Spot {
-    pub(crate) fn place(self) -> Result<i64, AllocError>
+    pub(crate) fn place(self) -> Result<i128, AllocError>
         ensures { IfOk result (λ here. here ≡ place self) }
     {
-        plus(self.natural, self.set)
+        plus(self.natural, self.set as i128)
     }
 
     /// Behind something of a fixed size.
-    pub(crate) fn moved(self, by: i64) -> Result<Spot, AllocError>
+    pub(crate) fn moved(self, by: i128) -> Result<Spot, AllocError>
         ensures { IfOk result (λ spot. spot ≡ moved by self) }
     {
         Ok(Spot {
@@ -194,11 +160,11 @@ impl Spot {
     pub(crate) fn glued(self, set: &GlueSet, glue: &Glue) -> Result<Spot, AllocError>
         ensures { IfOk result (λ spot. spot ≡ glued set.now glue.now self) }
     {
-        let total = plus(self.total, pull_of(set, glue))?;
+        let total = sum_of(self.total, pull(set, glue))?;
         Ok(Spot {
-            natural: plus(self.natural, glue.width as i64)?,
+            natural: plus(self.natural, glue.width as i128)?,
             total,
-            set: set_of(set, total),
+            set: growth(set, total),
         })
     }
 }

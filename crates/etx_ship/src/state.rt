@@ -1,6 +1,7 @@
 //! The state of a DVI file between two pages.
-ghost use Rattle.std.specs.Prelude.{◌≡◌, ◌<◌, ◌≤◌, length, OnOk, OnErr};
+ghost use Rattle.std.specs.Prelude.{◌≡◌, ◌<◌, ◌≤◌, List, ◌∷◌, length, OnOk, OnErr};
 ghost use Rattle.etx_ship.specs.Files.{file_of, new_file, with_font};
+ghost use Rattle.etx_ship.specs.Wholes.{Event, Load, bytes_behind, dvi_file};
 
 use etx_dvi::FontName;
 use std::alloc::{AllocError, Global};
@@ -27,9 +28,9 @@ pub(crate) struct Numbers {
     pub pages: u64,
     /// The place of the last page's first command, or -1.
     pub last: i32,
-    /// The greatest height plus depth of a page, in sp.
+    /// The greatest height plus depth of a page with its offset down (`\voffset`), in sp, and at least 0.
     pub tallest: i32,
-    /// The greatest width of a page, in sp.
+    /// The greatest width of a page with its offset to the right (`\hoffset`), in sp, and at least 0.
     pub widest: i32,
     /// The most boxes that were open at once.
     pub pushes: u64,
@@ -39,7 +40,8 @@ pub(crate) struct Numbers {
 /// A DVI file that is being written: how long it is and which pages it has, as far as the next page and the postamble
 /// need it, and the fonts that are loaded.
 ///
-/// It has at most 2147483647 bytes, none before its first page, and at most [`MOST_FONTS`] fonts.
+/// It has at most 2147483647 bytes, none before its first page, and at most [`MOST_FONTS`] fonts, for each of which it keeps
+/// whether it is used.
 #[derive(Drop)]
 pub struct DviState {
     numbers: Numbers,
@@ -55,14 +57,15 @@ impl Model for DviState {
 
     ghost view = { λ it. file_of it.numbers it.fonts.items it.used.items };
 
-    ghost invariant = { λ it. (it.numbers.bytes ≤ 2147483647) × (it.numbers.pages ≡ 0 → it.numbers.bytes ≡ 0) × (length it.fonts.items ≤ 255) };
+    ghost invariant = { λ it. (it.numbers.bytes ≤ 2147483647) × (it.numbers.pages ≡ 0 → it.numbers.bytes ≡ 0) × (length it.fonts.items ≤ 255) × (length it.used.items ≡ length it.fonts.items) };
 }
 
 impl DviState {
     /// A file with nothing in it, and no font. `magnification` is the magnification times 1000. Takes no memory.
-    #[tactic(auto, unfolding(crate::specs::Files::new_file))]
+    #[tactic(auto, unfolding(crate::specs::Files::new_file, crate::specs::Wholes::dvi_file))]
     pub fn new(alloc: Global, magnification: i32) -> DviState
-        ensures { result ≡ new_file magnification }
+        ensures value { result ≡ new_file magnification }
+        ensures whole { (events : List Event) → dvi_file magnification events ≡ bytes_behind result events }
     {
         let numbers = Numbers {
             bytes: 0,
@@ -80,8 +83,9 @@ impl DviState {
         }
     }
 
-    /// Sets the magnification times 1000. It is the file's from the first page on, so it is to be set before that.
+    /// Sets the magnification times 1000. The first page's preamble tells it, so it is only to be set before that.
     pub fn set_magnification(&mut self, magnification: i32)
+        requires { self.old.pages ≡ 0 }
         ensures { self.new ≡ record self.old { magnification = magnification } }
     {
         self.numbers.magnification = magnification;
@@ -105,16 +109,18 @@ impl DviState {
     /// How many fonts are loaded.
     pub fn fonts(&self) -> usize
         ensures value { result ≡ length self.now.fonts }
+        ensures marks { result ≡ length self.now.used }
         ensures small { result ≤ 255 }
     {
         self.fonts.len()
     }
 
     /// Loads the next font. For want of memory the state is as before.
-    #[tactic(auto, unfolding(crate::specs::Files::with_font))]
+    #[tactic(auto, unfolding(crate::specs::Files::with_font, crate::specs::Wholes::bytes_behind))]
     pub fn load(&mut self, font: DviFont) -> Result<(), AllocError>
         requires { length self.old.fonts < 255 }
         ensures ok { OnOk result (self.new ≡ with_font font self.old) }
+        ensures whole { OnOk result ((events : List Event) → bytes_behind self.old (Load font ∷ events) ≡ bytes_behind self.new events) }
         ensures err { OnErr result (self.new ≡ self.old) }
     {
         self.used.reserve(1)?;
@@ -133,7 +139,8 @@ impl DviState {
 
     // Which of them are used.
     pub(crate) fn used(&self) -> &[bool]
-        ensures { result.now ≡ self.now.used }
+        ensures value { result.now ≡ self.now.used }
+        ensures marks { length result.now ≡ length self.now.fonts }
     {
         self.used.as_slice()
     }
@@ -150,6 +157,7 @@ impl DviState {
     pub(crate) fn set(&mut self, numbers: Numbers, used: Vec<bool>)
         requires small { numbers.bytes ≤ 2147483647 }
         requires none { numbers.pages ≡ 0 → numbers.bytes ≡ 0 }
+        requires marks { length used.items ≡ length self.old.fonts }
         ensures { self.new ≡ file_of numbers self.old.fonts used.items }
     {
         self.numbers = numbers;

@@ -6,7 +6,7 @@ use etx_matter::{BoxNode, Node, What};
 use std::alloc::{AllocError, Global};
 
 /// The texts of `\write`, and the commands that open and close files, in the order in which the box is shipped. Those in
-/// leaders do nothing ("TeX: The Program", section 1374).
+/// leaders do nothing ("TeX: The Program", section 1374). Nothing is refused but for want of memory, which each of them takes.
 pub fn writes(alloc: Global, b: &BoxNode) -> Result<Vec<What>, AllocError>
     ensures { IfOk result (λ whats. whats.items ≡ texts_of b.now) }
 {

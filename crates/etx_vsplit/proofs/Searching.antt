@@ -5,7 +5,7 @@ use Rattle.std.proofs.lemmas.List.{at_drop_more, at_drop_all, length-take-le, ta
 use Rattle.etx_matter.specs.declared.node.Node.{Node}
 use Rattle.etx_vsplit.specs.declared.trial.Trial.{Trial}
 use Rattle.etx_vsplit.specs.declared.column.Column.{Column}
-use Rattle.etx_vsplit.specs.Columns.{column_of, with_node}
+use Rattle.etx_vsplit.specs.Columns.{column_of, column_with}
 use Rattle.etx_vsplit.specs.Breaks.{is_before_glue, is_glue_there, penalty_at, trial_of, trial_with, trial_at, with_trial, trials_from, all_trials, forcing}
 use Rattle.etx_vsplit.specs.Splits.{until_last, cheaper_of, cheapest, ends_search, last_place, nodes_before, has_infinite_shrink, place_if, infinite_places, split_at, split_of}
 use Rattle.etx_vsplit.proofs.Choosing.{cheaper_of-assoc}
@@ -93,14 +93,14 @@ unfolding infinite_places
 begins goal max_depth nodes column shrinks e p = record { column_is = e; best_is = refl; last_is = refl; shrinks_is = p }
 
 -- it goes on behind a node
-pub goes_on : (goal max_depth : ℤ) (nodes : List Node) (i : ℕ) (node : Node) (column column' : Column) (best best' trial : Option Trial) (shrinks shrinks' : List ℕ) → Stands goal max_depth nodes i column best shrinks → i < length nodes → node ≡ get_or nodes i node → trial ≡ trial_at goal i column (is_glue_there (slice_get nodes (i + 1))) node → ends_search trial ≡ false → best' ≡ cheaper_of best trial → column' ≡ with_node max_depth column node → shrinks' ≡ shrinks ++ place_if (has_infinite_shrink node) i → Stands goal max_depth nodes (i + 1) column' best' shrinks'
+pub goes_on : (goal max_depth : ℤ) (nodes : List Node) (i : ℕ) (node : Node) (column column' : Column) (best best' trial : Option Trial) (shrinks shrinks' : List ℕ) → Stands goal max_depth nodes i column best shrinks → i < length nodes → node ≡ get_or nodes i node → trial ≡ trial_at goal i column (is_glue_there (slice_get nodes (i + 1))) node → ends_search trial ≡ false → best' ≡ cheaper_of best trial → column' ≡ column_with max_depth column node → shrinks' ≡ shrinks ++ place_if (has_infinite_shrink node) i → Stands goal max_depth nodes (i + 1) column' best' shrinks'
 goes_on goal max_depth nodes i node column column' best best' trial shrinks shrinks' s h e t on b c p =
     let rest = trials_behind goal max_depth nodes (i + 1) in
     let here = here_by goal max_depth nodes i node column trial s.column_is h e t in
     let more = taken_more nodes i node h e in
     let places : 0 + length (take i nodes) ≡ i = omega (arith, length-take-le i nodes (omega arith)) in
     record {
-      column_is = c ∙ ap (λ (k : Column). with_node max_depth k node) s.column_is ∙ sym (column_push max_depth (take i nodes) node) ∙ ap (column_of max_depth) (sym more);
+      column_is = c ∙ ap (λ (k : Column). column_with max_depth k node) s.column_is ∙ sym (column_push max_depth (take i nodes) node) ∙ ap (column_of max_depth) (sym more);
       best_is =
           ap (λ (o : Option Trial). cheaper_of o (cheapest (until_last rest))) b
           ∙ cheaper_of-assoc best trial (cheapest (until_last rest))

@@ -9,13 +9,13 @@ use Rattle.etx_pack.specs.Reaches.{length_of}
 use Rattle.etx_pack.specs.Sums.{nothing, together, stretch_of, sum_over, total_over}
 use Rattle.etx_pack.specs.declared.orders.OrderTotals.{OrderTotals}
 use Rattle.etx_vsplit.specs.declared.column.Column.{Column}
-use Rattle.etx_vsplit.specs.Columns.{finite_shrink_of, hang_within, stays, ends_staying, column_of, with_node}
+use Rattle.etx_vsplit.specs.Columns.{finite_shrink_of, hang_within, stays, ends_staying, column_of, column_with}
 use Rattle.etx_vsplit.specs.Splits.{has_infinite_shrink, place_if, infinite_places}
 
 sum_push : {X Y : Type 0} (f : Y → X → Y) (a : Y) (g : Node → X) (nodes : List Node) (node : Node) → fold f a (map g (nodes ++ node ∷ [])) ≡ f (fold f a (map g nodes)) (g node)
 sum_push f a g nodes node = ap (fold f a) (map-append g nodes (node ∷ [])) ∙ fold_push f a (map g nodes) (g node)
 
-pub column_push : (max_depth : ℤ) (nodes : List Node) (node : Node) → column_of max_depth (nodes ++ node ∷ []) ≡ with_node max_depth (column_of max_depth nodes) node
+pub column_push : (max_depth : ℤ) (nodes : List Node) (node : Node) → column_of max_depth (nodes ++ node ∷ []) ≡ column_with max_depth (column_of max_depth nodes) node
 unfolding column_of
 column_push max_depth nodes node =
     let sizes : sum_over length_of (nodes ++ node ∷ []) ≡ sum_over length_of nodes +ℤ length_of node = sum_push ◌+ℤ◌ (pos 0) length_of nodes node in
@@ -26,7 +26,7 @@ column_push max_depth nodes node =
     cc
 
 -- a column of which each part is told
-pub column_is : (max_depth : ℤ) (column : Column) (node : Node) (sizes depth : ℤ) (stretch : OrderTotals) (shrink : ℤ) (staying : Bool) → sizes ≡ column.length +ℤ length_of node → depth ≡ hang_within max_depth column.depth node → stretch ≡ together column.stretch (stretch_of node) → shrink ≡ column.shrink +ℤ finite_shrink_of node → staying ≡ stays node → record { length = sizes; depth = depth; stretch = stretch; shrink = shrink; ends_staying = staying } ≡ with_node max_depth column node
+pub column_is : (max_depth : ℤ) (column : Column) (node : Node) (sizes depth : ℤ) (stretch : OrderTotals) (shrink : ℤ) (staying : Bool) → sizes ≡ column.length +ℤ length_of node → depth ≡ hang_within max_depth column.depth node → stretch ≡ together column.stretch (stretch_of node) → shrink ≡ column.shrink +ℤ finite_shrink_of node → staying ≡ stays node → record { length = sizes; depth = depth; stretch = stretch; shrink = shrink; ends_staying = staying } ≡ column_with max_depth column node
 column_is max_depth column node sizes depth stretch shrink staying a b c d e = cc
 
 pub nothing_stands : (max_depth : ℤ) → column_of max_depth [] ≡ record { length = pos 0; depth = pos 0; stretch = nothing; shrink = pos 0; ends_staying = false }

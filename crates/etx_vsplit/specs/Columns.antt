@@ -3,22 +3,21 @@
 use Rattle.std.specs.Prelude.{◌≤◌, ◌*◌, ℕ, Bool, false, ◌&&◌, not, if◌then◌else◌, ℤ, pos, ◌+ℤ◌, ◌-ℤ◌, neg_ℤ, unsigned_abs, int_lt, List, Option, Some, None}
 use Rattle.std.specs.Int.{int_min}
 use Rattle.std.specs.List.{fold}
-use Rattle.etx_scaled.specs.Badness.{badness_of}
 use Rattle.etx_matter.specs.declared.glue.Glue.{Glue}
 use Rattle.etx_matter.specs.declared.node.Node.{Node}
 use Rattle.etx_matter.specs.Sizes.{glue_of, is_discardable}
-use Rattle.etx_pack.specs.Fits.{within_32_bits, is_zero}
+use Rattle.etx_pack.specs.Fits.{badness_between, is_zero}
 use Rattle.etx_pack.specs.Reaches.{length_of, hang_under}
 use Rattle.etx_pack.specs.Sums.{sum_over, total_over, together, stretch_of, Small4}
 use Rattle.etx_vsplit.specs.declared.column.Column.{Column}
 
-abbrev pub glue_shrink : Option Glue → ℤ
-glue_shrink None = pos 0
-glue_shrink (Some glue) = glue.shrink
+abbrev pub finite_shrink : Option Glue → ℤ
+finite_shrink None = pos 0
+finite_shrink (Some glue) = glue.shrink
 
 -- the shrink of a node, which counts as finite whatever its order
 unfoldable pub finite_shrink_of : Node → ℤ
-finite_shrink_of node = glue_shrink (glue_of node)
+finite_shrink_of node = finite_shrink (glue_of node)
 
 -- how much hangs below the last baseline of a column that may be so deep; what hangs deeper belongs to its height
 unfoldable pub hang_within : ℤ → ℤ → Node → ℤ
@@ -44,8 +43,8 @@ column_of max_depth nodes = record {
 }
 
 -- a column with a node more under it
-abbrev pub with_node : ℤ → Column → Node → Column
-with_node max_depth column node = record {
+abbrev pub column_with : ℤ → Column → Node → Column
+column_with max_depth column node = record {
   length = column.length +ℤ length_of node;
   depth = hang_within max_depth column.depth node;
   stretch = together column.stretch (stretch_of node);
@@ -71,9 +70,6 @@ is_too_high goal column =
 unfoldable pub has_infinite_stretch : Column → Bool
 has_infinite_stretch column =
     not (is_zero column.stretch.fil && is_zero column.stretch.fill && is_zero column.stretch.filll)
-
-unfoldable pub badness_between : ℤ → ℤ → ℤ
-badness_between need total = pos (badness_of (unsigned_abs (within_32_bits need)) (within_32_bits total))
 
 -- how bad the glue of a column is set that isn't too high
 unfoldable pub column_badness : ℤ → Column → ℤ

@@ -1,11 +1,10 @@
 //! What stands in a column before a break.
 ghost use Rattle.std.specs.Prelude.{◌≡◌, ◌≤◌, ◌<◌, ℕ, ◌+◌, ◌*◌, pos, ◌≤ℤ◌, ◌<ℤ◌, false, unsigned_abs};
 ghost use Rattle.etx_pack.specs.Sums.{nothing};
-ghost use Rattle.etx_vsplit.specs.Columns.{with_node, lack_of, is_too_high, has_infinite_stretch, badness_between, column_badness, finite_shrink_of, stays, hang_within, IsSmall};
+ghost use Rattle.etx_vsplit.specs.Columns.{column_with, lack_of, is_too_high, has_infinite_stretch, column_badness, finite_shrink_of, stays, hang_within, IsSmall};
 
 use etx_matter::Node;
-use etx_pack::{OrderTotals, vertical_hang, vertical_length, within_32_bits};
-use etx_scaled::badness;
+use etx_pack::{OrderTotals, badness_between, vertical_hang, vertical_length};
 
 /// The nodes before a break, all together. Sizes are in sp.
 #[derive(Clone, Copy, Debug, PartialEq, Eq)]
@@ -38,7 +37,7 @@ impl Column {
     /// Puts a node under the column, which may be so deep.
     pub fn add(&mut self, node: &Node, max_depth: i32)
         requires { IsSmall 1073741823 self.old }
-        ensures value { self.new ≡ with_node max_depth self.old node.now }
+        ensures value { self.new ≡ column_with max_depth self.old node.now }
         ensures small { (count : ℕ) → IsSmall count self.old → IsSmall (count + 1) self.new }
     {
         self.length += vertical_length(node);
@@ -122,13 +121,4 @@ fn stays(node: &Node) -> bool
     ensures { result ≡ stays node.now }
 {
     !node.is_discardable()
-}
-
-#[tactic(auto, unfolding(crate::specs::Columns::badness_between, etx_pack::specs::Fits::within_32_bits))]
-fn badness_between(need: i64, total: i64) -> i32
-    requires { pos 0 ≤ℤ need }
-    ensures value { result ≡ badness_between need total }
-    ensures sign { pos 0 ≤ℤ result }
-{
-    badness(within_32_bits(need), within_32_bits(total))
 }

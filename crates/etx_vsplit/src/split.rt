@@ -1,7 +1,7 @@
 //! A vertical list is split.
 ghost use Rattle.std.specs.Prelude.{◌≡◌, ℕ, ◌+◌, IfOk};
 ghost use Rattle.std.specs.Option.{option_copied};
-ghost use Rattle.etx_vsplit.specs.Columns.{with_node, IsSmall};
+ghost use Rattle.etx_vsplit.specs.Columns.{column_with, IsSmall};
 ghost use Rattle.etx_vsplit.specs.Breaks.{is_glue_there, forcing, trial_of, trial_at};
 ghost use Rattle.etx_vsplit.specs.Splits.{split_at, split_of};
 
@@ -22,7 +22,8 @@ pub struct Split {
     pub at: Option<u32>,
     /// The natural height together with the depth of what stands before the break, in sp.
     pub height: i32,
-    /// The places of the glue that TeX reports, since its shrink is infinite. It counts as finite.
+    /// The places of the glue that TeX reports, since its shrink is infinite, up to the last break that is looked at, in
+    /// rising order. It counts as finite.
     pub shrinks: Listed<u32>,
 }
 
@@ -41,7 +42,7 @@ fn split_at(trial: Option<Trial>, shrinks: Listed<u32>) -> Split
     match trial {
         Some(trial) => Split {
             at: trial.at,
-            height: within_32_bits(trial.height),
+            height: within_32_bits(i128::from(trial.height)),
             shrinks,
         },
         None => Split {
@@ -81,7 +82,7 @@ impl Wanted {
     /// Puts a node under a column.
     fn add(self, column: &mut Column, node: &Node)
         requires { IsSmall 1073741823 column.old }
-        ensures value { column.new ≡ with_node self.max_depth column.old node.now }
+        ensures value { column.new ≡ column_with self.max_depth column.old node.now }
         ensures small { (count : ℕ) → IsSmall count column.old → IsSmall (count + 1) column.new }
     {
         column.add(node, self.max_depth);
@@ -112,7 +113,8 @@ fn best_break(alloc: Global, list: &Nodes, wanted: Wanted) -> Result<Split, Allo
 /// The best break of a vertical list, of which `goal` sp are wanted before it, in a column that may be `max_depth` sp deep
 /// ("TeX: The Program", section 970). Of breaks that cost the same it is the last one.
 ///
-/// The list isn't changed: where glue is reported, TeX would make its shrink finite.
+/// The list isn't changed: where glue is reported, TeX would make its shrink finite. Nothing is refused but for want of
+/// memory, which only the list of reported glue takes.
 pub fn vert_break(
     alloc: Global,
     list: &Nodes,

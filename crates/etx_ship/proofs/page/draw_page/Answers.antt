@@ -1,5 +1,6 @@
-use Rattle.std.proofs.Common.{◌≡◌, ◌+◌, ◌∙◌, ap, ap₂, length, arith}
-use Rattle.etx_ship.specs.Pages.{page_of}
+use Rattle.std.proofs.Common.{◌≡◌, ◌+◌, ◌∙◌, ap, ap₂, sym, length, arith}
+use Rattle.etx_ship.specs.Pages.{page_of, page_items, fresh}
+use Rattle.etx_ship.proofs.Marks.{marks_kept}
 use Rattle.etx_ship.proofs.Paging.{IsWritten, paged_bytes, paged_behind}
 use Rattle.etx_ship.proofs.page.draw_page.Goals as goal
 
@@ -7,7 +8,7 @@ written : (c : goal.After-len) → IsWritten c.args.file.now (page_of c.args.b.n
 written c = record {
   numbers = c.numbers.ensures.value;
   loaded = c.loaded.ensures.value;
-  marked = c.used.ensures;
+  marked = c.used.ensures.value;
   first = c.in_ok-pen.ensures;
   origin = c.origin.ensures;
   written = c.in_ok-write_page.ensures;
@@ -23,6 +24,14 @@ returns-clause-place c =
 
 pub returns-clause-used : goal.returns-clause-used
 returns-clause-used c = c.into_parts-bytes.ensures.used ∙ ap (λ pen. pen.used) (paged_behind _ _ _ _ _ _ _ _ (written c))
+
+pub returns-clause-marks : goal.returns-clause-marks
+returns-clause-marks c =
+    let page = page_of c.args.b.now c.args.counts.now c.args.offset.0 c.args.offset.1 in
+    ap length (c.into_parts-bytes.ensures.used ∙ ap (λ pen. pen.used) (paged_behind _ _ _ _ _ _ _ _ (written c)))
+    ∙ marks_kept c.args.file.now.fonts (page_items page) (fresh c.args.file.now.used)
+    ∙ ap length (sym c.used.ensures.value)
+    ∙ c.used.ensures.marks
 
 pub returns-clause-most : goal.returns-clause-most
 returns-clause-most c = c.into_parts-bytes.ensures.most ∙ ap (λ pen. pen.most) (paged_behind _ _ _ _ _ _ _ _ (written c))

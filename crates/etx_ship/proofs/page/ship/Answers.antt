@@ -1,6 +1,7 @@
-use Rattle.std.proofs.Common.{◌≡◌, ◌+◌, ◌∙◌, sym, ap, subst, arith}
+use Rattle.std.proofs.Common.{◌≡◌, ◌+◌, ◌∙◌, ◌++◌, sym, ap, ap₂, subst, arith}
 use Rattle.etx_ship.specs.Files.{file_of, postamble}
 use Rattle.etx_ship.specs.Pages.{page_of}
+use Rattle.etx_ship.specs.Wholes.{bytes_behind}
 use Rattle.etx_ship.proofs.Shipping.{full_at_once, shipped_file, shipped_full, shipped_whole}
 use Rattle.etx_ship.proofs.page.ship.Goals as goal
 
@@ -56,6 +57,11 @@ returns-clause-ok c =
       ending_is = subst (λ us. c.in_ok-end.end.items ≡ postamble (file_of c.in_ok-numbers.numbers c.loaded.result.now us)) c.as_slice.ensures.value c.in_ok-end.ensures;
       end_is = omega (arith, c.len.ensures, c.in_ok-end.end.ok.0);
     })
+
+pub returns-clause-whole : goal.returns-clause-whole
+unfolding bytes_behind
+returns-clause-whole c = λ events.
+    ap₂ (λ bytes next. bytes ++ bytes_behind next events) (sym c.in_ok-page.ensures.bytes) (sym (returns-clause-ok c))
 
 pub returns-clause-answer : goal.returns-clause-answer
 returns-clause-answer c =
