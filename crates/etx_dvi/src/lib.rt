@@ -10,8 +10,6 @@ mod hot;
 mod law;
 mod lengths;
 mod tail;
-#[cfg(test)]
-mod tests;
 
 pub use command::{Dvi, FontName};
 pub use hot::put;

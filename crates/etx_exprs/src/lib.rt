@@ -14,8 +14,6 @@ mod levels;
 mod part;
 mod step;
 mod sum;
-#[cfg(test)]
-mod tests;
 mod unit;
 mod value;
 

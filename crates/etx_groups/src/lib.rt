@@ -9,6 +9,3 @@ mod groups;
 pub mod law;
 
 pub use groups::{GroupEnd, NoGroup, after, assign, assign_global, begin, end};
-
-#[cfg(test)]
-mod tests;

@@ -13,8 +13,6 @@ mod levels;
 mod mark;
 mod origin;
 mod run;
-#[cfg(test)]
-mod tests;
 mod text;
 
 pub use file::FileInput;

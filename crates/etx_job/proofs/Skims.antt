@@ -31,7 +31,7 @@ use Rattle.etx_job.specs.Machine.{main_turn, top_turn, stack_turn, machine_turn}
 use Rattle.etx_job.specs.Mouths.{mouth_at}
 use Rattle.etx_job.specs.Turn.{turn_of}
 use Rattle.etx_job.specs.Runs.{IsQuiet, Runs}
-use Rattle.etx_job.specs.Skimming.{IsIdle, AreIdle, taken, plain_body, called, IsAtRest}
+use Rattle.etx_job.specs.Skimming.{IsIdle, AreIdle, taken, plain_body, called, IsAtRest, IsFirst, IsNext}
 use Rattle.etx_job.proofs.Running.{runs_one, runs_on}
 use Rattle.etx_job.proofs.Turns.{lt_false}
 
@@ -64,7 +64,7 @@ top_is : (es : List Entry) (m : Mouth) (a : After) → es ≡ [] → main_turn m
 top_is [] m a none is = is
 top_is (e ∷ es) m a none is = absurd (let no : e ∷ es ≡ [] = none in cc)
 
-stack_is : (m : Mouth) (a : After) → m.entries ≡ [] → main_turn m ≡ a → stack_turn m ≡ a
+pub stack_is : (m : Mouth) (a : After) → m.entries ≡ [] → main_turn m ≡ a → stack_turn m ≡ a
 unfolding stack_turn
 stack_is m a none is = top_is m.entries m a none is
 
@@ -74,7 +74,7 @@ fits m n at is = rw (is, at.entries, lt_false 10000 (length n.input.levels) at.d
 
 -- ---- the levels of the input become no more
 
-fewer_in : (n : ℕ) (ls : List Level) → length (levels_skipped n ls) ≤ length ls
+pub fewer_in : (n : ℕ) (ls : List Level) → length (levels_skipped n ls) ≤ length ls
 fewer_in n [] = omega arith
 fewer_in n (level.File f ∷ ls) = omega arith
 fewer_in n (level.List l ∷ ls) = by (drop n l.rest)
@@ -115,7 +115,7 @@ as_many v (suc n) [] all = absurd all
 as_many v (suc n) (t ∷ ts) all = let fewer = as_many v n ts all.1 in omega (arith, fewer)
 
 -- one more behind some
-taken_more : (n : ℕ) (m : Mouth) → n < length (fresh_in m.input.levels) → taken 1 (taken n m) ≡ taken (n + 1) m
+pub taken_more : (n : ℕ) (m : Mouth) → n < length (fresh_in m.input.levels) → taken 1 (taken n m) ≡ taken (n + 1) m
 taken_more n m lt = ap (λ i. with_input i (charged 1 (charged n m))) (sym (more n m.input lt)) ∙ ap (λ (k : ℕ). record m { input = skipped (n + 1) m.input; spent = k }) (omega arith)
 
 step_at : (budget : ℕ) (m : Mouth) (t : Token) (us : List Token) → fresh_in m.input.levels ≡ t ∷ us → IsAtRest m → IsIdle (token_meaning m.rest.values t) → m.spent + 1 ≤ budget → Runs budget (mouth_at Reading m) (mouth_at Reading (taken 1 m))
@@ -197,7 +197,7 @@ idle_runs_to budget (suc n) k m i ts at same all le some room is =
 pub at_rest_behind : (n : ℕ) (m : Mouth) (i : InputState) → IsAtRest m → i ≡ skipped n m.input → IsAtRest (record m { input = i; spent = m.spent + n })
 at_rest_behind n m i at is = subst (λ (j : InputState). IsAtRest (record m { input = j; spent = m.spent + n })) (sym is) (still_at_rest n m at)
 
-one_more : (ts : List Token) (i : InputState) → length (list_before ts Fresh i).levels ≤ length i.levels + 1
+pub one_more : (ts : List Token) (i : InputState) → length (list_before ts Fresh i).levels ≤ length i.levels + 1
 one_more [] i = omega arith
 one_more (t ∷ ts) i = omega arith
 
@@ -212,7 +212,18 @@ first_is : (ts : List Token) (d : Token) → 1 ≤ length ts → ts ≡ get_or t
 first_is [] d le = absurd (omega (arith, le))
 first_is (t ∷ ts) d le = refl
 
-pub call_runs_to : (budget : ℕ) (m : Mouth) (i j : InputState) (ts : List Token) (d : Token) (body : List Token) → IsAtRest m → ts ≡ fresh_in m.input.levels → 1 ≤ length ts → plain_body (token_meaning m.rest.values (get_or ts 0 d)) ≡ Some body → i ≡ skipped 1 m.input → j ≡ with_list Fresh body i → length m.input.levels < 10000 → m.spent + 1 ≤ budget → Runs budget (mouth_at Reading m) (mouth_at Reading (record m { input = j; spent = m.spent + 1 }))
-call_runs_to budget m i j ts d body at same some plain skip push depth room =
-    let runs = call_runs budget m (get_or ts 0 d) (drop 1 ts) body (sym same ∙ first_is ts d some) at.entries plain (deeper body m depth) room in
+pub call_runs_to : (budget : ℕ) (m : Mouth) (i j : InputState) (t : Token) (body : List Token) → IsNext t m → plain_body (token_meaning m.rest.values t) ≡ Some body → i ≡ skipped 1 m.input → j ≡ with_list Fresh body i → m.spent + 1 ≤ budget → Runs budget (mouth_at Reading m) (mouth_at Reading (record m { input = j; spent = m.spent + 1 }))
+call_runs_to budget m i j t body next plain skip push room =
+    let runs = call_runs budget m t next.first.0 body next.first.1 next.entries plain (deeper body m next.depth) room in
     subst (λ (k : InputState). Runs budget (mouth_at Reading m) (mouth_at Reading (record m { input = k; spent = m.spent + 1 }))) (sym (push ∙ ap (with_list Fresh body) skip)) runs
+
+-- ---- the first token, as the code has it
+
+pub first_some : (t : Token) (ts : List Token) → IsFirst t ts → 1 ≤ length ts
+first_some t ts first = let long : length ts ≡ suc (length first.0) = ap (λ (us : List Token). length us) first.1 in omega (arith, long)
+
+pub next_is : (m : Mouth) (ts : List Token) (d : Token) → m.entries ≡ [] → length m.input.levels < 10000 → ts ≡ fresh_in m.input.levels → 1 ≤ length ts → IsNext (get_or ts 0 d) m
+next_is m ts d none depth same some = record { entries = none; depth = depth; first = (drop 1 ts, sym same ∙ first_is ts d some) }
+
+pub rests : (t : Token) (m : Mouth) → IsNext t m → IsAtRest m
+rests t m next = record { entries = next.entries; depth = let less = next.depth in omega (arith, less) }

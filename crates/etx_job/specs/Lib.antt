@@ -2,6 +2,7 @@ pub mod Chain
 pub mod Commands
 pub mod Errors
 pub mod Fault
+pub mod Gathering
 pub mod Going
 pub mod Machine
 pub mod Meaning

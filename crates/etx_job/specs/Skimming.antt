@@ -1,17 +1,22 @@
 -- Turns at rest that the code makes many of at once: nothing stands on the stack, and the innermost level is a list of fresh tokens.
 -- The proofs need these words; nothing that is promised stands here.
-use Rattle.std.specs.Prelude.{◌≡◌, ℕ, zero, suc, ◌+◌, ◌≤◌, List, [], ◌∷◌, length, ◌⊎◌, Option, Some, None, if◌then◌else◌}
+use Rattle.std.specs.Prelude.{◌≡◌, Bool, true, false, ℕ, zero, suc, ◌+◌, ◌<◌, ◌≤◌, List, [], ◌∷◌, length, ◌⊎◌, Option, Some, None, if◌then◌else◌}
 use Rattle.etx_matter.specs.declared.token.Token.{Token}
 use Rattle.etx_prims.specs.declared.command.Primitive.TheVariants as prims
 use Rattle.etx_input.specs.declared.origin.Origin.TheVariants.{Fresh}
-use Rattle.etx_input.specs.Runs.{skipped}
+use Rattle.etx_input.specs.Runs.{fresh_in, skipped}
 use Rattle.etx_state.specs.declared.key.Meaning.{Meaning}
 use Rattle.etx_state.specs.declared.key.Meaning.TheVariants as means
 use Rattle.etx_state.specs.Reading.{token_meaning}
 use Rattle.etx_state.specs.Values.{Values}
 use Rattle.etx_state.specs.Mouths.{Mouth}
+use Rattle.etx_expand.specs.declared.plan.Did.{Did}
+use Rattle.etx_expand.specs.declared.plan.Did.TheVariants as did
 use Rattle.etx_expand.specs.Expanding.{is_plain}
+use Rattle.etx_expand.specs.Meanings.{expandable_of}
 use Rattle.etx_expand.specs.Moves.{read_next}
+use Rattle.etx_job.specs.declared.skim.Glance.{Glance}
+use Rattle.etx_job.specs.declared.skim.Glance.TheVariants as glance
 
 -- main control does nothing at this meaning: \relax, \par, a space
 abbrev pub IsIdle : Meaning → Type 0
@@ -49,3 +54,31 @@ called body m = read_next Fresh body (taken 1 m)
 pub record IsAtRest (m : Mouth) : Type 0 where
   pub entries : m.entries ≡ []
   pub depth : length m.input.levels ≤ 10000
+
+-- this is the first of the tokens
+abbrev pub IsFirst : Token → List Token → Type 0
+IsFirst t ts = (us : List Token) × (ts ≡ t ∷ us)
+
+-- nothing stands on the stack, one level more may be read, and this is the next token, a fresh one of a list
+pub record IsNext (t : Token) (m : Mouth) : Type 0 where
+  pub entries : m.entries ≡ []
+  pub depth : length m.input.levels < 10000
+  pub first : IsFirst t (fresh_in m.input.levels)
+
+-- the meaning of a command that isn't expanded
+abbrev pub IsCommand : Meaning → Meaning → Type 0
+IsCommand mm command = (command ≡ mm) × (expandable_of command ≡ None)
+
+-- what is seen of a token that means this
+abbrev pub IsGlance : Meaning → Glance → Type 0
+IsGlance mm glance.Idle = IsIdle mm
+IsGlance mm (glance.Call body) = plain_body mm ≡ Some body
+IsGlance mm (glance.Command command) = IsCommand mm command
+IsGlance mm glance.Other = Unit {0}
+
+-- nothing is done beside
+abbrev pub is_nothing : Did → Bool
+is_nothing did.Nothing = true
+is_nothing (did.Deed d) = false
+is_nothing (did.Error f) = false
+is_nothing (did.End e) = false

@@ -11,8 +11,8 @@ mod law;
 mod machine;
 mod mouth;
 mod skim;
-#[cfg(test)]
-mod tests;
+mod skim_body;
+mod skim_command;
 mod typeset;
 mod words;
 mod yields;

@@ -12,7 +12,7 @@ ghost use Rattle.etx_job.specs.Runs.{Runs, Advances, RunGoes};
 ghost use Rattle.etx_job.specs.declared.yields.Halt.{Halt as Why};
 
 use crate::machine;
-use crate::skim::skim;
+use crate::skim_body::skim;
 use crate::yields::{Halt, Yield};
 use etx_expand::Turned;
 use etx_input::FileInput;

@@ -13,8 +13,6 @@ mod line;
 mod lines;
 mod name;
 mod place;
-#[cfg(test)]
-mod tests;
 
 pub use categories::CatOf;
 pub use law::{each_text_has_one_first_line, each_text_is_lexed_in_one_way};

@@ -14,8 +14,6 @@ mod open_pattern;
 mod pattern;
 mod progress;
 mod substitution;
-#[cfg(test)]
-mod tests;
 
 pub use fault::{Fed, MatchFault};
 pub use law::{

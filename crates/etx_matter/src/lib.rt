@@ -14,14 +14,10 @@ mod math;
 mod measures;
 mod nests;
 mod node;
-#[cfg(test)]
-mod node_tests;
 mod page;
 mod shared;
 mod shared_font;
 mod sizes;
-#[cfg(test)]
-mod tests;
 mod token;
 mod whats;
 

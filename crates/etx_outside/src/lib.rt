@@ -12,8 +12,6 @@ mod memory_terminal;
 pub mod names;
 mod real;
 mod terminal;
-#[cfg(test)]
-mod tests;
 mod tree;
 
 pub use memory::MemTree;

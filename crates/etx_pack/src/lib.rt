@@ -11,8 +11,6 @@ mod orders;
 mod packing;
 mod reaches;
 mod spacing;
-#[cfg(test)]
-mod tests;
 mod totals;
 mod walks;
 

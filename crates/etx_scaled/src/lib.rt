@@ -8,8 +8,6 @@ mod division;
 mod law;
 mod rounding;
 mod stretching;
-#[cfg(test)]
-mod tests;
 
 pub use decimal::print_scaled;
 pub use division::{nx_plus_y, xn_over_d};

@@ -7,8 +7,6 @@
 mod fault;
 mod journal;
 mod pen;
-#[cfg(test)]
-mod tests;
 mod text;
 
 pub use fault::FlushFault;

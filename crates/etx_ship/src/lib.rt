@@ -15,8 +15,6 @@ mod page;
 mod pen;
 mod place;
 mod state;
-#[cfg(test)]
-mod tests;
 mod texts;
 
 pub use close::finish;

@@ -7,6 +7,3 @@
 mod stack;
 
 pub use stack::{Mark, Share, Stack};
-
-#[cfg(test)]
-mod tests;

@@ -19,6 +19,3 @@ pub use law::a_mark_keeps_its_map;
 pub use slot::{NAMES, SMALL, Slot};
 pub use state_mark::{InputMark, RestMark, StateMark};
 pub use store::{Mark, Store};
-
-#[cfg(test)]
-mod tests;

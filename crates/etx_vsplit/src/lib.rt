@@ -6,8 +6,6 @@ mod best;
 mod column;
 mod places;
 mod split;
-#[cfg(test)]
-mod tests;
 mod trial;
 
 pub use split::{Split, vert_break};

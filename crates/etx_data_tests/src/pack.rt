@@ -4,11 +4,11 @@
 ghost use Rattle.std.specs.Prelude.{IfOk};
 ghost use Rattle.etx_matter.specs.Nests.{IsNested, AreNested};
 
-use crate::{Packed, growth, hpack, pull, vpack};
 use etx_matter::{
     BoxNode, CharSize, Glue, GlueOrder, GlueSet, Goal, KernKind, Limits, Node, Nodes, Report,
     ReportKind, RuleSize,
 };
+use etx_pack::{Packed, growth, hpack, pull, vpack};
 use std::alloc::{AllocError, Global};
 use std::test::Fail;
 

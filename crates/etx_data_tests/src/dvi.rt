@@ -1,5 +1,5 @@
 // A whole file, byte by byte, and each call that takes memory once.
-use crate::{Dvi, FontName, length, put, put_tail};
+use etx_dvi::{Dvi, FontName, length, put, put_tail};
 use etx_lists::Bytes;
 use std::alloc::{AllocError, Global};
 use std::test::Fail;

@@ -1,5 +1,5 @@
 //! Each call once, at a type that has no copy of its own.
-use super::*;
+use etx_stack::{Share, Stack};
 use std::alloc::AllocError;
 use std::test::Fail;
 

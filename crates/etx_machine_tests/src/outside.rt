@@ -1,5 +1,5 @@
-use crate::names::{is_good, job_name, with_extension};
-use crate::{
+use etx_outside::names::{is_good, job_name, with_extension};
+use etx_outside::{
     LONGEST_FILE, Loaded, MemTerminal, MemTree, RealTerminal, RealTree, TermFault, Terminal, Tree,
     TreeFault,
 };

@@ -1,5 +1,5 @@
 // Values from "TeX: The Program" worked by hand, and each call that takes memory once.
-use crate::{Ratio, badness, nx_plus_y, print_scaled, round_half, xn_over_d};
+use etx_scaled::{Ratio, badness, nx_plus_y, print_scaled, round_half, xn_over_d};
 use std::test::Fail;
 
 #[test]

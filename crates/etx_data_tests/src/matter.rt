@@ -1,6 +1,6 @@
 //! Lists, tokens and jobs, once each with ample memory.
-use crate::{Boxed, Bytes, Job, Listed, NameId, PAR, SharedTokens, Token, Tokens};
 use etx_lists::Queue;
+use etx_matter::{Boxed, Bytes, Job, Listed, NameId, PAR, SharedTokens, Token, Tokens};
 use std::test::Fail;
 
 #[test]

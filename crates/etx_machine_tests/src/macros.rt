@@ -1,6 +1,6 @@
 // Calls against what TeX makes of them.
-use crate::{Fed, MatchFault, Matcher, Pattern, PatternFault, substitute};
 use etx_lists::Listed;
+use etx_macros::{Fed, MatchFault, Matcher, Pattern, PatternFault, substitute};
 use etx_matter::{NameId, PAR, Token, Tokens};
 use std::alloc::{AllocError, Global};
 use std::test::Fail;

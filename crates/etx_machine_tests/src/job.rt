@@ -1,6 +1,6 @@
 //! Jobs over a tree and a terminal in memory: the worked rows, and what calls that fail leave behind. All other jobs are run
 //! by the program that is built: tests/jobs, at the top of the repository.
-use crate::typeset_alone;
+use etx_job::typeset_alone;
 use etx_matter::Status;
 use etx_outside::{MemTerminal, MemTree};
 use std::alloc::{AllocError, Global};

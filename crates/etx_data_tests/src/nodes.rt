@@ -1,14 +1,14 @@
 //! Nodes and lists of them, with ample memory.
-#![tactic(auto, unfolding(crate::specs::Nests::IsNested, crate::specs::Nests::AreNested, crate::specs::Nests::IsNestedBox, crate::specs::Nests::IsNestedInner, crate::specs::Nests::list_depth, crate::specs::Nests::node_depth, crate::specs::Nests::box_depth, crate::specs::Nests::inner_depth))]
+#![tactic(auto, unfolding(etx_matter::specs::Nests::IsNested, etx_matter::specs::Nests::AreNested, etx_matter::specs::Nests::IsNestedBox, etx_matter::specs::Nests::IsNestedInner, etx_matter::specs::Nests::list_depth, etx_matter::specs::Nests::node_depth, etx_matter::specs::Nests::box_depth, etx_matter::specs::Nests::inner_depth))]
 
 ghost use Rattle.std.specs.Prelude.{IfOk};
 ghost use Rattle.etx_matter.specs.Nests.{IsNested, AreNested, IsNestedBox};
 
-use crate::{
+use etx_lists::Bytes;
+use etx_matter::{
     AtomKind, BoxNode, Boxed, Field, Glue, GlueOrder, GlueSet, InnerList, Leader, LeaderKind,
     LimitPlace, MathChar, Noad, Node, Nodes, RuleSize, What, copy_nodes, nesting,
 };
-use etx_lists::Bytes;
 use std::alloc::{AllocError, Global};
 use std::mem::size_of;
 use std::test::Fail;

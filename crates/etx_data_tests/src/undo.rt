@@ -1,5 +1,5 @@
 //! Tests of the store, at slots that are places in each of its two rows and at slots that are in none.
-use super::*;
+use etx_undo::{Mark, Slot, Store};
 use std::test::Fail;
 
 /// A slot of the row of kind 0, one of the row of all other kinds, and one of each sort that is in no row.

@@ -2,7 +2,7 @@
 ghost use Rattle.std.specs.Prelude.{◌≡◌, ◌≤◌, min, slice_index, OnOk};
 ghost use Rattle.etx_input.specs.Marks.{Keeps};
 
-use crate::{FileInput, Levels, Next, Origin};
+use etx_input::{FileInput, Levels, Next, Origin};
 use etx_lexer::{CatOf, Lexed};
 use etx_lists::Bytes;
 use etx_matter::{SharedTokens, Token, Tokens};
@@ -168,7 +168,7 @@ fn begun(alloc: Global) -> Result<Levels, AllocError> {
 }
 
 #[test]
-#[tactic(auto, using(crate::proofs::Marks::kept_live))]
+#[tactic(auto, using(etx_input::proofs::Marks::kept_live))]
 fn going_back_reads_again(rt: HostRuntime) -> Result<(), Fail> {
     let alloc = rt.alloc();
     let mut levels = begun(alloc)?;
@@ -185,7 +185,7 @@ fn going_back_reads_again(rt: HostRuntime) -> Result<(), Fail> {
 }
 
 #[test]
-#[tactic(auto, using(crate::proofs::Marks::kept_live))]
+#[tactic(auto, using(etx_input::proofs::Marks::kept_live))]
 fn earlier_marks_stay(rt: HostRuntime) -> Result<(), Fail> {
     let alloc = rt.alloc();
     let mut levels = begun(alloc)?;

@@ -1,7 +1,7 @@
 // Values that real e-TeX gave, and what is said of parts and tokens.
 ghost use Rattle.etx_exprs.specs.Constants.{IsBase};
 
-use crate::{Digits, Expr, Overflow, Part, TooBig, Turn, Unit, Value, ValueKind, convert};
+use etx_exprs::{Digits, Expr, Overflow, Part, TooBig, Turn, Unit, Value, ValueKind, convert};
 use etx_matter::{Glue, GlueOrder, NameId, Token};
 use std::alloc::{AllocError, Global};
 use std::test::Fail;

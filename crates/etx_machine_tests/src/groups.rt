@@ -1,5 +1,5 @@
 //! Tests of the calls. The helpers have no contracts and answer a `bool`, so that each test is short to prove.
-use super::*;
+use etx_groups::{NoGroup, after, assign, assign_global, begin, end};
 use etx_matter::Token;
 use etx_prims::IntParam;
 use etx_state::{Capacity, GroupKind, Key, Limit, Rest, Val};

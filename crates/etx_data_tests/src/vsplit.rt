@@ -1,7 +1,7 @@
 //! Vectors, and that memory isn't wanting where there is some.
-use crate::{Split, vert_break};
 use etx_lists::Listed;
 use etx_matter::{Glue, GlueOrder, Node, Nodes, RuleSize};
+use etx_vsplit::{Split, vert_break};
 use std::alloc::{AllocError, Global};
 use std::test::Fail;
 

@@ -1,11 +1,10 @@
 // Two whole files byte by byte, and each call that takes memory once.
-use crate::state::Numbers;
-use crate::{DviFont, DviState, ShipFault, finish, ship, writes};
 use etx_dvi::FontName;
 use etx_matter::{
     BoxNode, Boxed, Bytes, CharSize, Glue, GlueOrder, GlueSet, InnerList, Node, Nodes, RuleSize,
     SharedTokens, Tokens, What,
 };
+use etx_ship::{DviFont, DviState, ShipFault, finish, ship, writes};
 use std::alloc::{AllocError, Global};
 use std::test::Fail;
 
@@ -95,27 +94,6 @@ fn a_huge_page(rt: HostRuntime) -> Result<(), Fail> {
     assert!(rt; matches!(refused, Err(ShipFault::Huge)));
     let taken = ship(rt.alloc(), &b, [0; 10], (0, 0), &mut file);
     assert!(rt; taken.is_ok());
-    Ok(())
-}
-
-#[test]
-fn a_full_file(rt: HostRuntime) -> Result<(), Fail> {
-    let mut file = file(rt.alloc())?;
-    let b = letters(rt.alloc(), 327680)?;
-    let numbers = Numbers {
-        bytes: 2_147_483_647,
-        pages: 1,
-        last: 42,
-        tallest: 0,
-        widest: 0,
-        pushes: 0,
-        magnification: 1000,
-    };
-    let used = Vec::from_slice(rt.alloc(), file.used())?;
-    file.set(numbers, used);
-    let refused = ship(rt.alloc(), &b, [0; 10], (0, 0), &mut file);
-    assert!(rt; matches!(refused, Err(ShipFault::Full)));
-    assert_eq!(rt; file.pages(), 1);
     Ok(())
 }
 

@@ -1,7 +1,9 @@
 // Lines against the book's rules, and texts against the rules of lines.
 ghost use Rattle.std.specs.Prelude.{◌≡◌, ◌≤◌, min, slice_index};
 
-use crate::{CatOf, Lexed, Line, LinePlace, LineState, end_character, next_line, trimmed_length};
+use etx_lexer::{
+    CatOf, Lexed, Line, LinePlace, LineState, end_character, next_line, trimmed_length,
+};
 use std::alloc::{AllocError, Global};
 use std::process::Abort;
 use std::test::Fail;

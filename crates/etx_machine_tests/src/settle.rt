@@ -1,10 +1,10 @@
 ghost use Rattle.std.specs.Prelude.{◌≡◌, IfOk};
 ghost use Rattle.etx_settle.specs.Deeds.{first_pen};
 
-use crate::{FlushFault, Journal};
 use etx_lists::Bytes;
 use etx_matter::{Audience, Deed};
 use etx_outside::{MemTerminal, MemTree};
+use etx_settle::{FlushFault, Journal};
 use std::alloc::{AllocError, Global};
 use std::test::Fail;
 
