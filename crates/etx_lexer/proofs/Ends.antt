@@ -40,7 +40,7 @@ unfolding trimmed
 trim_nothing xs zero h = refl
 trim_nothing xs (suc n) h = absurd (omega arith)
 
-without-return : (xs : List ℕ) → without_return (xs ++ 13 ∷ []) ≡ xs
+pub without-return : (xs : List ℕ) → without_return (xs ++ 13 ∷ []) ≡ xs
 unfolding without_return
 without-return [] = refl
 without-return (a ∷ []) = refl

@@ -7,11 +7,11 @@ use Rattle.etx_lexer.specs.Splitting.{Split, without_return, split_at, first_lin
 abbrev pub split : List ℕ → List ℕ → Split
 split line rest = record { line = line; rest = rest }
 
-first_line-nil : first_line [] ≡ None
+pub first_line-nil : first_line [] ≡ None
 unfolding first_line
 first_line-nil = refl
 
-first_line-some : (text : List ℕ) → 0 < length text → first_line text ≡ Some (split_at text (position (λ x. x == 10) text))
+pub first_line-some : (text : List ℕ) → 0 < length text → first_line text ≡ Some (split_at text (position (λ x. x == 10) text))
 unfolding first_line
 first_line-some [] h = absurd (omega arith)
 first_line-some (b ∷ rest) h = refl

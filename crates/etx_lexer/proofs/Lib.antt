@@ -5,6 +5,7 @@ pub mod Ends
 pub mod FirstLines
 pub mod Firsts
 pub mod Laws
+mod OneLine
 pub mod Shorter
 pub mod Texts
 pub mod Walks

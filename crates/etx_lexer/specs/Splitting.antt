@@ -1,5 +1,6 @@
 -- The lines of a text.
-use Rattle.std.specs.Prelude.{ℕ, ◌+◌, List, [], ◌∷◌, ◌==◌, take, drop, position, Option, Some, None, if◌then◌else◌}
+use Rattle.std.specs.Prelude.{◌≡◌, ℕ, ◌+◌, Bool, false, List, [], ◌∷◌, ◌++◌, ◌==◌, take, drop, position, Option, Some, None, if◌then◌else◌}
+use Rattle.std.specs.List.{list_any}
 
 -- a line, and the text behind it
 pub record Split : Type 0 where
@@ -22,3 +23,22 @@ split_at text None = record { line = text; rest = [] }
 unfoldable pub first_line : List ℕ → Option Split
 first_line [] = None
 first_line (b ∷ rest) = Some (split_at (b ∷ rest) (position (λ x. x == 10) (b ∷ rest)))
+
+-- whether a line's last byte is 13
+unfoldable pub ends_in_return : List ℕ → Bool
+ends_in_return [] = false
+ends_in_return (b ∷ []) = b == 13
+ends_in_return (b ∷ c ∷ rest) = ends_in_return (c ∷ rest)
+
+-- whether a line has a byte 10
+abbrev pub has_new_line : List ℕ → Bool
+has_new_line line = list_any (λ b. b == 10) line
+
+-- A text is its first line, the end of that line, and the rest. No line has a byte 10; and its end is as long as it can be.
+pub data IsFirstLine : List ℕ → List ℕ → List ℕ → Type 0 where
+  -- the end is byte 10
+  new_line : {line rest : List ℕ} → has_new_line line ≡ false → ends_in_return line ≡ false → IsFirstLine line rest (line ++ 10 ∷ rest)
+  -- the end is bytes 13 and 10
+  return_and_new_line : {line rest : List ℕ} → has_new_line line ≡ false → IsFirstLine line rest (line ++ 13 ∷ 10 ∷ rest)
+  -- the text is over, and the line isn't empty
+  text_over : {b : ℕ} {line : List ℕ} → has_new_line (b ∷ line) ≡ false → IsFirstLine (b ∷ line) [] (b ∷ line)
