@@ -6,6 +6,26 @@ import sys
 
 ROOT = os.path.dirname(os.path.dirname(os.path.abspath(__file__)))
 
+# The end of a main file that has a function `count(alloc, what, size)`: it reads lines `WHAT SIZE`, and prints its answers.
+COUNTS_BY_LINE = r"""
+fn obey(rt: &HostRuntime, line: &str) -> io::Result<()> {
+    if let Some((what, size)) = line.split_once(' ') {
+        let size: u32 = size.parse().unwrap_or(0);
+        let found = count(rt.alloc(), what, size)?;
+        println!(rt; "{found}")?;
+    }
+    Ok(())
+}
+
+fn main(rt: HostRuntime) -> io::Result<()> {
+    for line in rt.lines(rt.alloc()) {
+        let line = line?;
+        obey(&rt, line.as_str())?;
+    }
+    Ok(())
+}
+"""
+
 
 def crate_lines():
     """The crates of the repository, each with the libraries that it stands on."""

@@ -149,24 +149,7 @@ fn count(alloc: Global, what: &str, size: u32) -> Result<u64, AllocError> {
         _ => Ok(0),
     }
 }
-
-fn obey(rt: &HostRuntime, line: &str) -> io::Result<()> {
-    if let Some((what, size)) = line.split_once(' ') {
-        let size: u32 = size.parse().unwrap_or(0);
-        let found = count(rt.alloc(), what, size)?;
-        println!(rt; "{found}")?;
-    }
-    Ok(())
-}
-
-fn main(rt: HostRuntime) -> io::Result<()> {
-    for line in rt.lines(rt.alloc()) {
-        let line = line?;
-        obey(&rt, line.as_str())?;
-    }
-    Ok(())
-}
-"""
+""" + common.COUNTS_BY_LINE
 
 PROOFS = {"boxes/Invariants.antt": """use Rattle.etx_matter.specs.Nests.{AreNested}
 use Rattle.list_bench.proofs.boxes.Given as goal

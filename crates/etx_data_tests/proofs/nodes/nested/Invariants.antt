@@ -1,5 +1,5 @@
 use Rattle.etx_matter.specs.Nests.{AreNested}
-use Rattle.etx_matter.proofs.node_tests.nested.Given as goal
+use Rattle.etx_data_tests.proofs.nodes.nested.Given as goal
 
 abbrev pub invariant-loop : goal.invariant-loop
 invariant-loop l = AreNested l.list

@@ -1,6 +1,6 @@
 -- The first mark stands through all that follows.
 use Rattle.etx_input.proofs.Marks.{kept_live}
-use Rattle.etx_input.proofs.tests.earlier_marks_stay.Goals as goal
+use Rattle.etx_machine_tests.proofs.input.earlier_marks_stay.Goals as goal
 
 pub back_to-requires-2 : goal.back_to-requires-2
 back_to-requires-2 g c =
