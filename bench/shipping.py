@@ -177,6 +177,10 @@ fn obey(rt: &HostRuntime, ns: &[i64], work: &mut Work) -> io::Result<()> {
             Ok(())
         }
         10 => ship_out(rt, ns, work),
+        12 => {
+            load(rt.alloc(), &mut work.file, at(ns, 1))?;
+            Ok(())
+        }
         _ => {
             if let Some(item) = node(rt.alloc(), ns, work)? {
                 if let Some(list) = work.lists.last_mut() {
