@@ -61,40 +61,12 @@ ended_keeps r = inl refl
 brace_keeps : (o : Option GroupKind) (r : RestState) → Keeps (right_brace_by o r) r
 brace_keeps None r = inr refl
 brace_keeps (Some groups.Simple) r = ended_keeps r
-brace_keeps (Some groups.HBox) r = inr refl
-brace_keeps (Some groups.AdjustedHBox) r = inr refl
-brace_keeps (Some groups.VBox) r = inr refl
-brace_keeps (Some groups.VTop) r = inr refl
-brace_keeps (Some groups.Align) r = inr refl
-brace_keeps (Some groups.NoAlign) r = inr refl
-brace_keeps (Some groups.Output) r = inr refl
-brace_keeps (Some groups.Math) r = inr refl
-brace_keeps (Some groups.Disc) r = inr refl
-brace_keeps (Some groups.Insert) r = inr refl
-brace_keeps (Some groups.VCenter) r = inr refl
-brace_keeps (Some groups.MathChoice) r = inr refl
 brace_keeps (Some groups.SemiSimple) r = inr refl
-brace_keeps (Some groups.MathShift) r = inr refl
-brace_keeps (Some groups.MathLeft) r = inr refl
 
 end_keeps : (o : Option GroupKind) (r : RestState) → Keeps (end_group_by o r) r
 end_keeps None r = inr refl
 end_keeps (Some groups.Simple) r = inr refl
-end_keeps (Some groups.HBox) r = inr refl
-end_keeps (Some groups.AdjustedHBox) r = inr refl
-end_keeps (Some groups.VBox) r = inr refl
-end_keeps (Some groups.VTop) r = inr refl
-end_keeps (Some groups.Align) r = inr refl
-end_keeps (Some groups.NoAlign) r = inr refl
-end_keeps (Some groups.Output) r = inr refl
-end_keeps (Some groups.Math) r = inr refl
-end_keeps (Some groups.Disc) r = inr refl
-end_keeps (Some groups.Insert) r = inr refl
-end_keeps (Some groups.VCenter) r = inr refl
-end_keeps (Some groups.MathChoice) r = inr refl
 end_keeps (Some groups.SemiSimple) r = ended_keeps r
-end_keeps (Some groups.MathShift) r = inr refl
-end_keeps (Some groups.MathLeft) r = inr refl
 
 right_keeps : (r : RestState) → Keeps (right_brace_row r) r
 unfolding right_brace_row

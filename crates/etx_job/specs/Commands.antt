@@ -67,7 +67,6 @@ abbrev pub right_brace_by : Option GroupKind → RestState → Begun
 right_brace_by None r = beginning (start_fails (codes "Too many }'s") nothing) r
 right_brace_by (Some groups.Simple) r = group_ended r
 right_brace_by (Some groups.SemiSimple) r = beginning (start_fails (naming (codes "Extra }, or forgotten ") (codes "endgroup") r) nothing) r
-right_brace_by (Some _) r = beginning (start_ends Unbuilt) r
 
 -- a right brace ends a simple group
 unfoldable pub right_brace_row : RestState → Begun
@@ -81,7 +80,6 @@ abbrev pub end_group_by : Option GroupKind → RestState → Begun
 end_group_by None r = beginning (start_fails (naming (codes "Extra ") (codes "endgroup") r) nothing) r
 end_group_by (Some groups.Simple) r = beginning missing_brace r
 end_group_by (Some groups.SemiSimple) r = group_ended r
-end_group_by (Some _) r = beginning (start_ends Unbuilt) r
 
 -- \endgroup ends a semi simple group
 unfoldable pub end_group_row : RestState → Begun

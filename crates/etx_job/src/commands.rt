@@ -89,7 +89,6 @@ fn right_brace_row(rest: &mut Rest) -> Result<Start, AllocError>
         None => start_fails(rest.alloc(), b"Too many }'s", nothing()),
         Some(GroupKind::Simple) => group_ended(rest),
         Some(GroupKind::SemiSimple) => fail_at(rest, b"Extra }, or forgotten ", b"endgroup"),
-        Some(_) => Ok(start_ends(End::Unbuilt)),
     }
 }
 
@@ -112,7 +111,6 @@ fn end_group_row(rest: &mut Rest) -> Result<Start, AllocError>
         None => fail_at(rest, b"Extra ", b"endgroup"),
         Some(GroupKind::Simple) => missing_brace(rest.alloc()),
         Some(GroupKind::SemiSimple) => group_ended(rest),
-        Some(_) => Ok(start_ends(End::Unbuilt)),
     }
 }
 

@@ -93,24 +93,12 @@ impl Val {
     }
 }
 
-/// The kind of a group, by what began it ("TeX: The Program", section 269). `kind as u8` is its number in
-/// `\currentgrouptype`, where 0 says that no group is open.
+/// The kind of a group, by what began it ("TeX: The Program", section 269): those that can be open. `kind as u8` is its
+/// number in `\currentgrouptype`, where 0 says that no group is open.
 #[derive(Clone, Copy, Debug, PartialEq, Eq)]
 pub enum GroupKind {
+    /// A left brace.
     Simple = 1,
-    HBox,
-    AdjustedHBox,
-    VBox,
-    VTop,
-    Align,
-    NoAlign,
-    Output,
-    Math,
-    Disc,
-    Insert,
-    VCenter,
-    MathChoice,
-    SemiSimple,
-    MathShift,
-    MathLeft,
+    /// `\begingroup`.
+    SemiSimple = 14,
 }
