@@ -8,6 +8,8 @@ mod dvi;
 #[cfg(test)]
 mod exprs;
 #[cfg(test)]
+mod fonts;
+#[cfg(test)]
 mod matter;
 #[cfg(test)]
 mod nodes;
