@@ -125,8 +125,9 @@ fn is_damaged(font: Result<Font, FontFault>, wanted: Damage) -> bool {
 #[test]
 fn a_file_that_ends_early_is_damaged(rt: HostRuntime) -> Result<(), Fail> {
     let bytes = small_font(rt.alloc())?;
+    let whole = bytes.as_slice();
     for length in [0, 23, 419] {
-        let font = read_font(rt.alloc(), &bytes.as_slice()[..length], Size::Design);
+        let font = read_font(rt.alloc(), &whole[..whole.len().min(length)], Size::Design);
         assert!(rt; is_damaged(font, Damage::Short), "{length}");
     }
     Ok(())
