@@ -62,16 +62,19 @@ fn space() -> Node
     })
 }
 
+fn item(place: u32) -> Node
+    ensures { IsNested result }
+{
+    if place & 7 == 7 { space() } else { letter() }
+}
+
+#[tactic(auto, using(etx_pack::proofs::Marking::nested_more), unfolding(etx_matter::specs::Nests::IsNested, etx_matter::specs::Nests::AreNested, etx_matter::specs::Nests::list_depth, etx_matter::specs::Nests::node_depth))]
 fn line(alloc: Global, size: u32) -> Result<Nodes, AllocError>
     ensures { IfOk result (λ list. AreNested list) }
 {
-    let mut list = Nodes::with_room(alloc, size as usize)?;
+    let mut list = Nodes::new(alloc);
     for place in 0..size {
-        if place & 7 == 7 {
-            list.push(space())?;
-        } else {
-            list.push(letter())?;
-        }
+        list.push(item(place))?;
     }
     Ok(list)
 }
