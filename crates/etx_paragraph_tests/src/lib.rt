@@ -1,0 +1,7 @@
+//! Tests of the crates that break paragraphs into lines, through their public calls.
+//!
+//! They stand in a crate of their own, since tests in a crate are proved with all of that crate once more.
+#![tactic(auto)]
+
+#[cfg(test)]
+mod sealed;
