@@ -1,10 +1,11 @@
 -- Items that are kept with the first one last.
-use Rattle.std.proofs.Common.{◌≡◌, ℕ, suc, ◌+◌, ◌-◌, ◌<◌, Bool, true, false, eqb, List, [], ◌∷◌, ◌++◌, map, take, length, get_or, refl, sym, ap, ◌∙◌, arith}
-use Rattle.std.proofs.lemmas.Bool.{ne_eqb}
+use Rattle.std.proofs.Common.{◌≡◌, ℕ, suc, ◌+◌, ◌-◌, ◌<◌, List, [], ◌∷◌, ◌++◌, map, take, length, get_or, refl, sym, ap, ◌∙◌, arith}
 use Rattle.std.specs.Prelude.{Some}
 use Rattle.etx_tfm.specs.declared.piece.Piece.{Piece}
+use Rattle.etx_tfm.specs.declared.piece.Neighbour.{Neighbour}
+use Rattle.etx_tfm.specs.declared.piece.Neighbour.TheVariants as side
 use Rattle.etx_tfm.specs.declared.piece.Piece.TheVariants.{LeftEdge, RightEdge, Letter}
-use Rattle.etx_tfm.specs.Machine.{item_of, item_if, edged, next_item, is_end, is_right_edge}
+use Rattle.etx_tfm.specs.Machine.{item_of, letters_of, side_of, between, next_item, is_end, is_right_edge}
 use Rattle.etx_tfm.specs.Cleans.{turned_behind, letters_in}
 
 pub turned-push : (xs rest : List Piece) (x : Piece) → turned_behind (xs ++ x ∷ []) rest ≡ x ∷ turned_behind xs rest
@@ -34,7 +35,7 @@ pub none_left : (xs : List Piece) → length xs ≡ 0 → xs ≡ []
 none_left [] e = refl
 none_left (x ∷ xs) e = absurd (omega (arith, e))
 
--- letters and edges
+-- letters and neighbours
 letters_in-append : (xs ys : List Piece) → letters_in (xs ++ ys) ≡ letters_in xs + letters_in ys
 letters_in-append [] ys = omega arith
 letters_in-append (x ∷ xs) ys = omega (arith, letters_in-append xs ys)
@@ -43,33 +44,23 @@ letters_in-letters : (letters : List ℕ) → letters_in (map Letter letters) �
 letters_in-letters [] = refl
 letters_in-letters (code ∷ letters) = omega (arith, letters_in-letters letters)
 
-letters_in-left : (left : Bool) → letters_in (item_if left LeftEdge) ≡ 0
-letters_in-left true = refl
-letters_in-left false = refl
+letters_in-side : (edge : Piece) (side : Neighbour) → letters_of edge ≡ [] → letters_in (side_of edge side) ≡ 0
+letters_in-side edge side.Nothing e = refl
+letters_in-side edge side.Boundary e = omega (arith, ap length e)
+letters_in-side edge (side.Character code) e = refl
 
-letters_in-right : (right : Bool) → letters_in (item_if right RightEdge) ≡ 0
-letters_in-right true = refl
-letters_in-right false = refl
-
-pub letters_in-edged : (letters : List ℕ) (left right : Bool) → letters_in (edged letters left right) ≡ length letters
-letters_in-edged letters left right =
-    let a = letters_in-append (item_if left LeftEdge ++ map Letter letters) (item_if right RightEdge) in
-    let b = letters_in-append (item_if left LeftEdge) (map Letter letters) in
-    omega (arith, a, b, letters_in-left left, letters_in-right right, letters_in-letters letters)
+pub letters_in-between : (letters : List ℕ) (left right : Neighbour) → letters_in (between letters left right) ≡ length letters
+letters_in-between letters left right =
+    let a = letters_in-append (side_of LeftEdge left ++ map Letter letters) (side_of RightEdge right) in
+    let b = letters_in-append (side_of LeftEdge left) (map Letter letters) in
+    omega (arith, a, b, letters_in-side LeftEdge left refl, letters_in-side RightEdge right refl, letters_in-letters letters)
 
 -- none is touched
-pub letters_in-untouched : (xs : List Piece) (letters : List ℕ) (left right : Bool) → length xs ≡ 0 → letters_in (turned_behind xs (edged letters left right)) ≡ length letters
-letters_in-untouched xs letters left right e =
-    ap (λ it. letters_in (turned_behind it (edged letters left right))) (none_left xs e) ∙ letters_in-edged letters left right
+pub letters_in-untouched : (xs coming : List Piece) → length xs ≡ 0 → letters_in (turned_behind xs coming) ≡ letters_in coming
+letters_in-untouched xs coming e = ap (λ it. letters_in (turned_behind it coming)) (none_left xs e)
 
-some_letters : (code : ℕ) (letters : List ℕ) → length (code ∷ letters) ≡ 0 → ⊥
-some_letters code letters e = omega (arith, e)
+pub end-untouched : (xs coming : List Piece) → length xs ≡ 0 → is_end (turned_behind xs coming) ≡ is_end coming
+end-untouched xs coming e = ap (λ it. is_end (turned_behind it coming)) (none_left xs e)
 
-end-by : (letters : List ℕ) (right : Bool) (b : Bool) → b ≡ eqb (length letters) 0 → b ≡ is_end (edged letters false right)
-end-by [] true b h = h
-end-by [] false b h = h
-end-by (code ∷ letters) right b h = h ∙ ne_eqb (length (code ∷ letters)) 0 (some_letters code letters)
-
-pub end-edged : (xs : List Piece) (letters : List ℕ) (left right : Bool) (b : Bool) → length xs ≡ 0 → left ≡ false → b ≡ eqb (length letters) 0 → b ≡ is_end (turned_behind xs (edged letters left right))
-end-edged xs letters left right b e f h =
-    end-by letters right b h ∙ sym (ap (λ it. is_end (turned_behind it (edged letters left right))) (none_left xs e) ∙ ap (λ it. is_end (edged letters it right)) f)
+pub next-untouched : (xs coming : List Piece) → length xs ≡ 0 → next_item (turned_behind xs coming) ≡ next_item coming
+next-untouched xs coming e = ap (λ it. next_item (turned_behind it coming)) (none_left xs e)

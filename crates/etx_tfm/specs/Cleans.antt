@@ -9,7 +9,7 @@ use Rattle.etx_matter.specs.Fonts.{FontState}
 use Rattle.etx_matter.specs.Ligatures.{action_between}
 use Rattle.etx_tfm.specs.declared.piece.Edges.{Edges}
 use Rattle.etx_tfm.specs.declared.piece.Piece.{Piece}
-use Rattle.etx_tfm.specs.declared.piece.Piece.TheVariants.{LeftEdge, RightEdge, Letter, Made}
+use Rattle.etx_tfm.specs.declared.piece.Piece.TheVariants.{LeftEdge, RightEdge, Beside, Letter, Made}
 use Rattle.etx_tfm.specs.declared.reading.CleanPlace.{CleanPlace}
 use Rattle.etx_tfm.specs.Machine.{item_of, letters_of, nodes_of, kept, stepped}
 
@@ -28,10 +28,11 @@ abbrev pub letters_in : List Piece → ℕ
 letters_in [] = 0
 letters_in (x ∷ rest) = length (letters_of x) + letters_in rest
 
--- a letter of the word ends here, or its left edge stands here
+-- a letter of the word ends here, or what stands before the word
 abbrev pub holds_end : Piece → Bool
 holds_end LeftEdge = true
 holds_end RightEdge = false
+holds_end (Beside code) = true
 holds_end (Letter code) = true
 holds_end (Made code []) = false
 holds_end (Made code (letter ∷ letters)) = true

@@ -16,13 +16,16 @@ use Rattle.etx_matter.specs.declared.font.FontInfo.{FontInfo}
 use Rattle.etx_matter.specs.Fonts.{FontState, opposite, info_at}
 use Rattle.etx_matter.specs.Ligatures.{action_between}
 use Rattle.etx_tfm.specs.declared.piece.Edges.{Edges}
+use Rattle.etx_tfm.specs.declared.piece.Neighbour.{Neighbour}
+use Rattle.etx_tfm.specs.declared.piece.Neighbour.TheVariants as side
 use Rattle.etx_tfm.specs.declared.piece.Piece.{Piece}
-use Rattle.etx_tfm.specs.declared.piece.Piece.TheVariants.{LeftEdge, RightEdge, Letter, Made}
+use Rattle.etx_tfm.specs.declared.piece.Piece.TheVariants.{LeftEdge, RightEdge, Beside, Letter, Made}
 
 -- how a program sees an item of the list
 abbrev pub item_of : Piece → LigItem
 item_of LeftEdge = Boundary
 item_of RightEdge = Boundary
+item_of (Beside code) = Glyph code
 item_of (Letter code) = Glyph code
 item_of (Made code letters) = Glyph code
 
@@ -30,18 +33,21 @@ item_of (Made code letters) = Glyph code
 abbrev pub letters_of : Piece → List ℕ
 letters_of LeftEdge = []
 letters_of RightEdge = []
+letters_of (Beside code) = []
 letters_of (Letter code) = code ∷ []
 letters_of (Made code letters) = letters
 
 abbrev pub is_left_edge : Piece → Bool
 is_left_edge LeftEdge = true
 is_left_edge RightEdge = false
+is_left_edge (Beside code) = false
 is_left_edge (Letter code) = false
 is_left_edge (Made code letters) = false
 
 abbrev pub is_right_edge : Piece → Bool
 is_right_edge LeftEdge = false
 is_right_edge RightEdge = true
+is_right_edge (Beside code) = false
 is_right_edge (Letter code) = false
 is_right_edge (Made code letters) = false
 
@@ -93,11 +99,13 @@ char_of font code = roll-Node (Node-F.Char font.number code (size_of font.info c
 abbrev pub lig_of : FontState → ℕ → LigParts → Node
 lig_of font code parts = roll-Node (Node-F.Lig font.number code (size_of font.info code) parts)
 
--- what an item becomes when the cursor passes it; an edge becomes nothing. A ligature tells of the left edge, and, if it
+-- What an item becomes when the cursor passes it; an edge becomes nothing, and so does a character that stands beside the
+-- word. A ligature tells of the left edge, and, if it
 -- is the last item of the word, of the right one.
 abbrev pub nodes_of : FontState → Edges → Bool → Piece → List Node
 nodes_of font edges ends LeftEdge = []
 nodes_of font edges ends RightEdge = []
+nodes_of font edges ends (Beside code) = []
 nodes_of font edges ends (Letter code) = char_of font code ∷ []
 nodes_of font edges ends (Made code letters) =
     lig_of font code (record { letters = letters; left = edges.left; right = edges.right && ends }) ∷ []
@@ -106,6 +114,7 @@ nodes_of font edges ends (Made code letters) =
 abbrev pub edges_behind : Edges → Bool → Piece → Edges
 edges_behind edges ends LeftEdge = edges
 edges_behind edges ends RightEdge = edges
+edges_behind edges ends (Beside code) = edges
 edges_behind edges ends (Letter code) = edges
 edges_behind edges ends (Made code letters) = record { left = false; right = edges.right && opposite ends }
 
@@ -187,6 +196,20 @@ ComesTo font written edges rest written' edges' rest' =
 abbrev pub Begins : List Node → List Node → Type 0
 Begins old new = take (length old) new ≡ old
 
+-- the item that stands for a neighbour, where its edge of the word is given
+abbrev pub side_of : Piece → Neighbour → List Piece
+side_of edge side.Nothing = []
+side_of edge side.Boundary = edge ∷ []
+side_of edge (side.Character code) = Beside code ∷ []
+
+-- a word between its neighbours
+abbrev pub between : List ℕ → Neighbour → Neighbour → List Piece
+between chars left right = side_of LeftEdge left ++ map Letter chars ++ side_of RightEdge right
+
+abbrev pub boundary_if : Bool → Neighbour
+boundary_if true = side.Boundary
+boundary_if false = side.Nothing
+
 -- the word with the edges that are asked for
 abbrev pub edged : List ℕ → Bool → Bool → List Piece
-edged chars left right = item_if left LeftEdge ++ map Letter chars ++ item_if right RightEdge
+edged chars left right = between chars (boundary_if left) (boundary_if right)

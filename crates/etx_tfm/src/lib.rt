@@ -6,6 +6,7 @@
 #![tactic(auto)]
 
 mod checks;
+mod coming;
 mod fault;
 mod header;
 mod law;
@@ -25,6 +26,7 @@ mod word;
 
 pub use fault::{Damage, FontFault};
 pub use law::more_depth_changes_nothing;
+pub use piece::{Neighbour, boundary_if};
 pub use read::read_font;
 pub use reading::{CleanPlace, Reading};
 pub use runs::{ligkern, push_ligkern, read_run};

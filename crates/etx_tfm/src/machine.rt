@@ -46,7 +46,7 @@ fn edges_behind(edges: Edges, ends: bool, piece: &Piece) -> Edges
     ensures { result ≡ edges_behind edges ends piece.now }
 {
     match piece {
-        Piece::LeftEdge | Piece::RightEdge | Piece::Letter(_) => edges,
+        Piece::LeftEdge | Piece::RightEdge | Piece::Beside(_) | Piece::Letter(_) => edges,
         Piece::Made { .. } => Edges {
             left: false,
             right: edges.right && !ends,
@@ -98,7 +98,7 @@ fn write_node(
     ensures err { OnErr result (out.new ≡ out.old) }
 {
     match piece {
-        Piece::LeftEdge | Piece::RightEdge => Ok(()),
+        Piece::LeftEdge | Piece::RightEdge | Piece::Beside(_) => Ok(()),
         Piece::Letter(code) => out.push(letter_node(font, code)),
         Piece::Made { code, letters } => write_made(
             alloc,

@@ -1,12 +1,34 @@
 //! The items of the list that ligatures rewrite.
 ghost use Rattle.std.specs.Prelude.{◌≡◌, ◌++◌, OnOk, IfOk};
 ghost use Rattle.etx_matter.specs.Ligatures.{action_between};
-ghost use Rattle.etx_tfm.specs.Machine.{item_of, letters_of, is_left_edge, is_right_edge, letters_unless, edges_with, made_of};
+ghost use Rattle.etx_tfm.specs.Machine.{boundary_if, item_of, letters_of, is_left_edge, is_right_edge, letters_unless, edges_with, made_of};
 ghost use Rattle.etx_tfm.specs.Cleans.{holds_end};
 
 use etx_lists::Bytes;
 use etx_matter::LigItem;
 use std::alloc::{AllocError, Global};
+
+/// What stands at one side of a word, as programs see it.
+#[derive(Clone, Copy, Debug, PartialEq, Eq)]
+pub enum Neighbour {
+    /// Nothing of which a font makes something.
+    Nothing,
+    /// The boundary: the word begins or ends there.
+    Boundary,
+    /// A character of the same font that is no part of the word.
+    Character(u8),
+}
+
+/// The boundary, where there is one.
+pub fn boundary_if(is: bool) -> Neighbour
+    ensures { result ≡ boundary_if is }
+{
+    if is {
+        Neighbour::Boundary
+    } else {
+        Neighbour::Nothing
+    }
+}
 
 /// An item of a word while its ligatures are made.
 #[derive(Debug, Drop)]
@@ -15,6 +37,8 @@ pub enum Piece {
     LeftEdge,
     /// What stands behind the last character.
     RightEdge,
+    /// A character before the first one of the word, or behind the last one.
+    Beside(u8),
     /// A character of the word.
     Letter(u8),
     /// A ligature: its code, and the letters for which it stands.
@@ -28,6 +52,7 @@ impl Piece {
     {
         match self {
             Piece::LeftEdge | Piece::RightEdge => LigItem::Boundary,
+            Piece::Beside(code) => LigItem::Glyph(*code),
             Piece::Letter(code) => LigItem::Glyph(*code),
             Piece::Made { code, .. } => LigItem::Glyph(*code),
         }
@@ -38,7 +63,7 @@ impl Piece {
     {
         match self {
             Piece::LeftEdge => true,
-            Piece::RightEdge | Piece::Letter(_) | Piece::Made { .. } => false,
+            Piece::RightEdge | Piece::Beside(_) | Piece::Letter(_) | Piece::Made { .. } => false,
         }
     }
 
@@ -48,16 +73,16 @@ impl Piece {
     {
         match self {
             Piece::RightEdge => true,
-            Piece::LeftEdge | Piece::Letter(_) | Piece::Made { .. } => false,
+            Piece::LeftEdge | Piece::Beside(_) | Piece::Letter(_) | Piece::Made { .. } => false,
         }
     }
 
-    /// Whether a letter of the word ends here, or its left edge stands here.
+    /// Whether a letter of the word ends here, or what stands before the word.
     pub fn holds_end(&self) -> bool
         ensures { result ≡ holds_end self.now }
     {
         match self {
-            Piece::LeftEdge | Piece::Letter(_) => true,
+            Piece::LeftEdge | Piece::Beside(_) | Piece::Letter(_) => true,
             Piece::RightEdge => false,
             Piece::Made { letters, .. } => !letters.is_empty(),
         }
@@ -68,7 +93,7 @@ impl Piece {
         ensures { OnOk result (letters.new ≡ letters.old ++ letters_of self.now) }
     {
         match self {
-            Piece::LeftEdge | Piece::RightEdge => Ok(()),
+            Piece::LeftEdge | Piece::RightEdge | Piece::Beside(_) => Ok(()),
             Piece::Letter(code) => letters.push(*code),
             Piece::Made { letters: more, .. } => letters.extend_from_slice(more.as_slice()),
         }

@@ -1,24 +1,23 @@
 //! The items of a word from the cursor on.
 ghost use Rattle.std.specs.Prelude.{◌≡◌, ◌+◌, ◌-◌, ◌∷◌, ◌==◌, [], MatchOption, OnOk, OnErr};
-ghost use Rattle.etx_tfm.specs.Machine.{edged, is_end, next_item};
+ghost use Rattle.etx_tfm.specs.Machine.{between, is_end, next_item};
 ghost use Rattle.etx_tfm.specs.Cleans.{letters_in};
 
-use crate::piece::Piece;
+use crate::coming::Coming;
+use crate::piece::{Neighbour, Piece};
 use etx_matter::LigItem;
 use std::alloc::{AllocError, Global};
 use std::marker::Model;
 
 /// The items of a word from the cursor on. Those that a ligature has touched stand in front: it made them, or looked at
-/// them and kept them. The others are as they came: the left edge, letters, and the right edge.
+/// them and kept them. The others are as they came.
 ///
 /// Contracts see the list of the items, and how many of them are touched.
 #[derive(Drop)]
 pub struct Rest<'a> {
     /// The touched ones, the first one last.
     touched: Vec<Piece>,
-    left: bool,
-    letters: &'a [u8],
-    right: bool,
+    coming: Coming<'a>,
 }
 
 impl<'a> Model for Rest<'a> {
@@ -27,22 +26,19 @@ impl<'a> Model for Rest<'a> {
 
     ghost Value = { RestState };
 
-    ghost use Rattle.etx_tfm.specs.Machine.{edged};
     ghost use Rattle.etx_tfm.specs.Cleans.{turned_behind};
 
-    ghost view = { λ it. record { items = turned_behind it.touched.items (edged it.letters.now it.left it.right); touched = length it.touched.items } };
+    ghost view = { λ it. record { items = turned_behind it.touched.items it.coming; touched = length it.touched.items } };
 }
 
 impl<'a> Rest<'a> {
-    /// A word with the edges that are asked for. Takes no memory.
-    pub fn new(alloc: Global, letters: &'a [u8], left: bool, right: bool) -> Rest<'a>
-        ensures { result ≡ record { items = edged letters.now left right; touched = 0 } }
+    /// A word between its neighbours. Takes no memory.
+    pub fn new(alloc: Global, letters: &'a [u8], left: Neighbour, right: Neighbour) -> Rest<'a>
+        ensures { result ≡ record { items = between letters.now left right; touched = 0 } }
     {
         Rest {
             touched: Vec::new(alloc),
-            left,
-            letters,
-            right,
+            coming: Coming::new(letters, left, right),
         }
     }
 
@@ -55,19 +51,7 @@ impl<'a> Rest<'a> {
         if let Some(piece) = self.touched.pop() {
             return Some(piece);
         }
-        if self.left {
-            self.left = false;
-            return Some(Piece::LeftEdge);
-        }
-        if let [code, behind @ ..] = self.letters {
-            self.letters = behind;
-            return Some(Piece::Letter(*code));
-        }
-        if self.right {
-            self.right = false;
-            return Some(Piece::RightEdge);
-        }
-        None
+        self.coming.pop()
     }
 
     /// Puts an item at the cursor, which is touched.
@@ -87,16 +71,7 @@ impl<'a> Rest<'a> {
         if count > 0 {
             return Some(self.touched[count - 1].item());
         }
-        if self.left {
-            return Some(LigItem::Boundary);
-        }
-        if let [code, ..] = self.letters {
-            return Some(LigItem::Glyph(*code));
-        }
-        if self.right {
-            return Some(LigItem::Boundary);
-        }
-        None
+        self.coming.next_item()
     }
 
     /// Whether nothing stands from the cursor on but the right edge.
@@ -107,10 +82,7 @@ impl<'a> Rest<'a> {
         if count > 0 {
             return self.touched[count - 1].is_right_edge();
         }
-        if self.left {
-            return false;
-        }
-        self.letters.is_empty()
+        self.coming.is_end()
     }
 
     /// Whether no item is touched.
@@ -125,6 +97,6 @@ impl<'a> Rest<'a> {
         requires { self.now.touched ≡ 0 }
         ensures { result ≡ letters_in self.now.items }
     {
-        self.letters.len()
+        self.coming.letter_count()
     }
 }

@@ -2,11 +2,11 @@
 ghost use Rattle.std.specs.Prelude.{◌≡◌, ◌+◌, ◌-◌, ◌++◌, ◌∷◌, [], length, if◌then◌else◌, true, Some, IsSome, OnOk, OnErr, IfOk};
 ghost use Rattle.etx_matter.specs.Ligatures.{action_between};
 ghost use Rattle.etx_matter.specs.Soundness.{IsSound};
-ghost use Rattle.etx_tfm.specs.Machine.{no_edges, nodes_of, place, passed, item_if, item_of, next_item, by_next, Begins, Rewrites, edged};
+ghost use Rattle.etx_tfm.specs.Machine.{no_edges, nodes_of, place, passed, item_if, item_of, next_item, by_next, Begins, Rewrites, between, edged};
 ghost use Rattle.etx_tfm.specs.Cleans.{touched_behind, is_clean, letters_in, place_if, Reads};
 
 use crate::machine::{kept, write, write_kern};
-use crate::piece::{Edges, Piece, made_of};
+use crate::piece::{Edges, Neighbour, Piece, boundary_if, made_of};
 use crate::program::action_between;
 use crate::reading::{CleanPlace, Reading};
 use crate::rest::Rest;
@@ -181,7 +181,7 @@ pub fn push_ligkern(
     ensures ok { OnOk result (Rewrites font.now out.old no_edges (edged chars.now left right) out.new) }
     ensures begins { Begins out.old out.new }
 {
-    let mut rest = Rest::new(alloc, chars, left, right);
+    let mut rest = Rest::new(alloc, chars, boundary_if(left), boundary_if(right));
     let mut edges = no_edges();
     'steps: loop {
         match rest.pop() {
@@ -244,20 +244,21 @@ fn note_place(
     Ok(())
 }
 
-/// The nodes that a run of characters becomes, as [`ligkern`] gives them, and the places at which the run can be cut.
+/// The nodes that a run of characters between its neighbours becomes, as [`ligkern`] gives them, and the places at which the
+/// run can be cut. A character beside the run is seen by programs, but no node tells of it.
 ///
-/// A place is clean where the cursor passes from the item that ends with the letter before it, or from the left edge, to
-/// the letter behind it, or the right edge, while no ligature has touched that one, and nothing is to be done between the
-/// two. The places rise. `Err` comes only where memory is wanting.
+/// A place is clean where the cursor passes from the item that ends with the letter before it, or from the left neighbour,
+/// to the letter behind it, or the right neighbour, while no ligature has touched that one, and nothing is to be done
+/// between the two. The places rise. `Err` comes only where memory is wanting.
 pub fn read_run(
     alloc: Global,
     font: &Font,
     chars: &[u8],
-    left: bool,
-    right: bool,
+    left: Neighbour,
+    right: Neighbour,
 ) -> Result<Reading, AllocError>
-    ensures nodes { IfOk result (λ reading. Rewrites font.now [] no_edges (edged chars.now left right) reading.nodes) }
-    ensures places { IfOk result (λ reading. Reads font.now (length chars.now) 0 [] no_edges (edged chars.now left right) [] reading.nodes reading.places) }
+    ensures nodes { IfOk result (λ reading. Rewrites font.now [] no_edges (between chars.now left right) reading.nodes) }
+    ensures places { IfOk result (λ reading. Reads font.now (length chars.now) 0 [] no_edges (between chars.now left right) [] reading.nodes reading.places) }
 {
     let mut rest = Rest::new(alloc, chars, left, right);
     let mut edges = no_edges();

@@ -1,26 +1,26 @@
 use Rattle.std.proofs.Common.{◌≡◌, ◌-◌, [], length, ◌∙◌, ap, sym}
-use Rattle.etx_tfm.specs.Machine.{no_edges, edged}
+use Rattle.etx_tfm.specs.Machine.{no_edges, between}
 use Rattle.etx_tfm.specs.Cleans.{touched_behind, is_clean}
 use Rattle.etx_tfm.proofs.Running.{falls-step, no_next, reads-over, reads-last, reads-step, noted-place, clean-untouched, reads_rewrites}
 use Rattle.etx_tfm.proofs.runs.read_run.Goals as goal
 
 pub returns-in-None-clause-places : goal.returns-in-None-clause-places
-returns-in-None-clause-places c = reads-over c.args.font.now (length c.args.chars.now) 0 c.steps.rest.touched no_edges (edged c.args.chars.now c.args.left c.args.right) c.steps.nodes c.steps.edges c.steps.rest.items c.steps.places c.steps.invariant c.in-None.ensures.0
+returns-in-None-clause-places c = reads-over c.args.font.now (length c.args.chars.now) 0 c.steps.rest.touched no_edges (between c.args.chars.now c.args.left c.args.right) c.steps.nodes c.steps.edges c.steps.rest.items c.steps.places c.steps.invariant c.in-None.ensures.0
 
 pub returns-in-None-clause-nodes : goal.returns-in-None-clause-nodes
 returns-in-None-clause-nodes c =
-    reads_rewrites c.args.font.now (length c.args.chars.now) 0 [] c.steps.nodes no_edges (edged c.args.chars.now c.args.left c.args.right) [] c.steps.places
-    (reads-over c.args.font.now (length c.args.chars.now) 0 c.steps.rest.touched no_edges (edged c.args.chars.now c.args.left c.args.right) c.steps.nodes c.steps.edges c.steps.rest.items c.steps.places c.steps.invariant c.in-None.ensures.0)
+    reads_rewrites c.args.font.now (length c.args.chars.now) 0 [] c.steps.nodes no_edges (between c.args.chars.now c.args.left c.args.right) [] c.steps.places
+    (reads-over c.args.font.now (length c.args.chars.now) 0 c.steps.rest.touched no_edges (between c.args.chars.now c.args.left c.args.right) c.steps.nodes c.steps.edges c.steps.rest.items c.steps.places c.steps.invariant c.in-None.ensures.0)
 
 pub returns-in-None-next_item-clause-places : goal.returns-in-None-next_item-clause-places
 returns-in-None-next_item-clause-places c =
-    reads-last c.args.font.now (length c.args.chars.now) 0 c.steps.rest.touched no_edges (edged c.args.chars.now c.args.left c.args.right) c.steps.nodes c.write.new.out c.steps.edges c.in-Some.current c.steps.rest.items c.pop.new.self.items c.steps.places c.steps.invariant
+    reads-last c.args.font.now (length c.args.chars.now) 0 c.steps.rest.touched no_edges (between c.args.chars.now c.args.left c.args.right) c.steps.nodes c.write.new.out c.steps.edges c.in-Some.current c.steps.rest.items c.pop.new.self.items c.steps.places c.steps.invariant
     c.in-Some.ensures.0 (no_next c.pop.new.self.items (sym c.in-None-next_item.ensures)) c.in_ok-write-in-None-next_item.ensures.nodes
 
 pub returns-in-None-next_item-clause-nodes : goal.returns-in-None-next_item-clause-nodes
 returns-in-None-next_item-clause-nodes c =
-    reads_rewrites c.args.font.now (length c.args.chars.now) 0 [] c.write.new.out no_edges (edged c.args.chars.now c.args.left c.args.right) [] c.steps.places
-    (reads-last c.args.font.now (length c.args.chars.now) 0 c.steps.rest.touched no_edges (edged c.args.chars.now c.args.left c.args.right) c.steps.nodes c.write.new.out c.steps.edges c.in-Some.current c.steps.rest.items c.pop.new.self.items c.steps.places c.steps.invariant
+    reads_rewrites c.args.font.now (length c.args.chars.now) 0 [] c.write.new.out no_edges (between c.args.chars.now c.args.left c.args.right) [] c.steps.places
+    (reads-last c.args.font.now (length c.args.chars.now) 0 c.steps.rest.touched no_edges (between c.args.chars.now c.args.left c.args.right) c.steps.nodes c.write.new.out c.steps.edges c.in-Some.current c.steps.rest.items c.pop.new.self.items c.steps.places c.steps.invariant
     c.in-Some.ensures.0 (no_next c.pop.new.self.items (sym c.in-None-next_item.ensures)) c.in_ok-write-in-None-next_item.ensures.nodes)
 
 pub steps-smaller : goal.steps-smaller
@@ -37,7 +37,7 @@ note_place-requires c =
 pub steps-preserved : goal.steps-preserved
 steps-preserved c =
     let behind : c.pop.new.self.touched ≡ c.steps.rest.touched - 1 = c.in-Some.ensures.1 in
-    reads-step c.args.font.now (length c.args.chars.now) 0 c.steps.rest.touched c.step.new.rest.touched no_edges (edged c.args.chars.now c.args.left c.args.right) c.steps.nodes c.step.new.out c.steps.edges c.step.new.edges c.in-Some.current
+    reads-step c.args.font.now (length c.args.chars.now) 0 c.steps.rest.touched c.step.new.rest.touched no_edges (between c.args.chars.now c.args.left c.args.right) c.steps.nodes c.step.new.out c.steps.edges c.step.new.edges c.in-Some.current
     c.steps.rest.items c.pop.new.self.items c.step.new.rest.items c.in-Some-next_item.next c.action_at-action.result c.steps.places c.note_place.new.places
     c.steps.invariant c.in-Some.ensures.0 (sym c.in-Some-next_item.ensures) c.in_ok-step-in-Some-next_item.ensures.ok c.action_at-action.ensures.action
     (c.in_ok-step-in-Some-next_item.ensures.touched ∙ ap (λ n. touched_behind n c.action_at-action.result) behind)

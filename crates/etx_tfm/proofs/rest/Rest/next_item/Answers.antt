@@ -1,6 +1,5 @@
 use Rattle.std.proofs.Common.{◌≡◌, ◌-◌, ◌<◌, length, Some, ap, sym, ◌∙◌, arith}
 use Rattle.std.proofs.lemmas.List.{get_or_read}
-use Rattle.etx_tfm.specs.Machine.{edged}
 use Rattle.etx_tfm.proofs.Turned.{next-turned}
 use Rattle.etx_tfm.proofs.rest.Rest.next_item.Goals as goal
 
@@ -10,4 +9,4 @@ returns-then-count-gt0 c =
     let some : 0 < c.len-count.result = c.if-count-gt0.true in
     let within : c.len-count.result - 1 < length c.self.inside.touched.items = omega (arith, counted, some) in
     let read = get_or_read c.self.inside.touched.items (c.len-count.result - 1) c.index.result.now within c.index.ensures c.index.result.now in
-    rw (← c.self.view_is) (ap Some c.item.ensures ∙ sym (next-turned c.self.inside.touched.items (edged c.self.inside.letters.now c.self.inside.left c.self.inside.right) c.index.result.now c.len-count.result counted some read))
+    rw (← c.self.view_is) (ap Some c.item.ensures ∙ sym (next-turned c.self.inside.touched.items c.self.inside.coming c.index.result.now c.len-count.result counted some read))

@@ -1,0 +1,13 @@
+pub mod Costing
+pub mod Filters
+pub mod Finding
+pub mod Finishing
+pub mod Leading
+pub mod Living
+pub mod Making
+pub mod Numbering
+pub mod Ordering
+pub mod Resulting
+pub mod Stopping
+pub mod Telling
+pub mod Walking

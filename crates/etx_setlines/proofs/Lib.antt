@@ -1,0 +1,4 @@
+pub mod Adding
+pub mod Distances
+pub mod Nesting
+pub mod Parted
