@@ -1,11 +1,13 @@
 -- Each turn of assignments goes on, whatever its rows decide.
-use Rattle.std.proofs.Common.{◌≡◌, ℕ, ℤ, ◌+◌, ◌≤◌, Bool, refl, arith}
+use Rattle.std.proofs.Common.{◌≡◌, ℕ, List, ◌+◌, ◌≤◌, Bool, refl, arith}
 use Rattle.etx_matter.specs.declared.token.Token.{Token}
 use Rattle.etx_state.specs.declared.key.Meaning.{Meaning}
 use Rattle.etx_state.specs.declared.scan.AssignNumber.{AssignNumber}
-use Rattle.etx_state.specs.declared.scan.NumberFinish.TheVariants as finish
+use Rattle.etx_exprs.specs.declared.value.Value.{Value as Amount}
+use Rattle.etx_input.specs.Levels.{line_number}
+use Rattle.etx_state.specs.declared.scan.AssignText.{AssignText}
 use Rattle.etx_state.specs.declared.scan.AssignScan.{AssignScan}
-use Rattle.etx_state.specs.declared.scan.Value.TheVariants as value
+use Rattle.etx_state.specs.declared.scan.Value.{Value}
 use Rattle.etx_state.specs.declared.scan.Keeper.TheVariants as keeper
 use Rattle.etx_state.specs.declared.scan.Scan.TheVariants as scan
 use Rattle.etx_state.specs.declared.scan.Entry.{Entry}
@@ -17,17 +19,24 @@ use Rattle.etx_expand.specs.declared.fetch.Fetched.TheVariants as fetched
 use Rattle.etx_expand.specs.Measure.{back_weight, weight, Steps, PaidFor, Falls, Goes}
 use Rattle.etx_expand.specs.Moves.{entered, scanning, put_back, insert_if, turned_by}
 use Rattle.etx_expand.specs.Turn.{keeper_fetched}
-use Rattle.etx_expand.proofs.Falling.{keeper_fetched_pays, planned_goes, finished_goes, expanded_goes, over_goes, cut_goes, falls_above, above_steps, both_back, both_steps, falls_same, insert_if_adds}
+use Rattle.etx_expand.proofs.Falling.{keeper_fetched_pays, planned_goes, finished_goes, word_goes, expanded_goes, over_goes, cut_goes, falls_above, above_steps, both_back, both_steps, falls_same, insert_if_adds}
 use Rattle.etx_assign.specs.Assignments.{Over, over}
-use Rattle.etx_assign.specs.Codes.{number_taken}
+use Rattle.etx_assign.specs.Values.{number_taken}
+use Rattle.etx_assign.specs.Lists.{list_given}
 use Rattle.etx_assign.specs.Meanings.{given_meaning}
-use Rattle.etx_assign.specs.Turn.{assign_row, assign_token, number_turn, future_over, future_token, future_with, future_turn}
+use Rattle.etx_assign.specs.Turn.{assign_row, assign_token, number_turn, text_turn, word_plan, assign_word_turn, future_over, future_token, future_with, future_turn}
 
 pub assign_goes : (left : ℕ) (a : AssignScan) (t : Token) (mm : Meaning) (old m : Mouth) → Falls back_weight old m → Steps 1 old m → Goes (scanning left (scan.Assign a) old) (assign_token left a t mm m)
-assign_goes left a t mm old m paid steps = planned_goes left (scan.Assign a) t (assign_row a t mm m.rest) old m paid steps
+assign_goes left a t mm old m paid steps = planned_goes left (scan.Assign a) t (assign_row a t mm (line_number m.input) m.rest) old m paid steps
 
-pub number_goes : (left : ℕ) (f : AssignNumber) (n : ℤ) (m : Mouth) → Goes (entered (entry.Given left (value.Number n (finish.Assign f))) m) (number_turn left f n m)
-number_goes left f n m = finished_goes left (value.Number n (finish.Assign f)) (number_taken f n m.rest) m
+pub number_goes : (left : ℕ) (f : AssignNumber) (a : Amount) (v : Value) (m : Mouth) → Goes (entered (entry.Given left v) m) (number_turn left f a m)
+number_goes left f a v m = finished_goes left v (number_taken f a m.rest) m
+
+pub text_goes : (left : ℕ) (f : AssignText) (ts : List Token) (v : Value) (m : Mouth) → Goes (entered (entry.Given left v) m) (text_turn left f ts m)
+text_goes left f ts v m = finished_goes left v (list_given f ts m.rest) m
+
+pub assign_word_goes : (left : ℕ) (a : AssignScan) (letters : List Token) (t : Token) (old m : Mouth) → Falls back_weight old m → Steps 1 old m → Goes (entered (entry.Word left letters (scan.Assign a)) old) (assign_word_turn left a letters t m)
+assign_word_goes left a letters t old m paid steps = word_goes left letters (scan.Assign a) t (word_plan a letters t) old m paid steps
 
 abbrev kept_entry : Bool → Token → Token → Entry
 kept_entry is_global name first = entry.Kept first (keeper.Future is_global name)

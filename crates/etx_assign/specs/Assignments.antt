@@ -1,6 +1,6 @@
 -- What an assignment does to the values, what is read behind it, and what may stand before it ("TeX: The Program", sections 1208 to
 -- 1217 and 1269).
-use Rattle.std.specs.Prelude.{ℕ, ℤ, pos, negsuc, zero, suc, Bool, true, false, ◌||◌, List, [], ◌∷◌, Option, Some, None}
+use Rattle.std.specs.Prelude.{ℕ, ℤ, pos, negsuc, zero, suc, Bool, true, false, ◌||◌, List, [], ◌∷◌, Option, Some, None, if◌then◌else◌}
 use Rattle.etx_matter.specs.declared.token.Token.{Token}
 use Rattle.etx_matter.specs.declared.token.Token.TheVariants.{Char, Name, Param}
 use Rattle.etx_prims.specs.declared.command.Primitive.{Primitive}
@@ -9,14 +9,18 @@ use Rattle.etx_prims.specs.declared.parameters.IntParam.TheVariants.{GlobalDefs}
 use Rattle.etx_prims.specs.declared.assignments.DefKind.{DefKind}
 use Rattle.etx_prims.specs.declared.assignments.PrefixKind.{PrefixKind}
 use Rattle.etx_prims.specs.declared.assignments.PrefixKind.TheVariants as prefixes
-use Rattle.etx_state.specs.declared.key.Key.{Key}
-use Rattle.etx_state.specs.declared.key.Key.TheVariants as key
+use Rattle.etx_keys.specs.declared.key.Key.{Key}
+use Rattle.etx_keys.specs.declared.key.Key.TheVariants as key
+use Rattle.etx_keys.specs.declared.single.Single.TheVariants as singles
 use Rattle.etx_state.specs.declared.key.Val.{Val}
 use Rattle.etx_state.specs.declared.key.Val.TheVariants as val
 use Rattle.etx_state.specs.declared.scan.Prefixes.{Prefixes}
+use Rattle.etx_state.specs.Fits.{fits}
 use Rattle.etx_state.specs.Values.{Values, assign, assign_global, change}
 use Rattle.etx_state.specs.Reading.{int_in, kept_in}
 use Rattle.etx_state.specs.Rests.{RestState, with_values}
+use Rattle.etx_expand.specs.declared.plan.Did.TheVariants as did
+use Rattle.etx_expand.specs.declared.plan.Ended.{Ended}
 use Rattle.etx_expand.specs.declared.plan.Move.TheVariants.{Used}
 use Rattle.etx_expand.specs.declared.plan.Then.TheVariants.{Insert}
 use Rattle.etx_expand.specs.Answers.{Planned, planned, Finished, finished, insert_token}
@@ -33,6 +37,10 @@ key_of (Param n) = key.Active 0
 abbrev pub assigned : Bool → Key → Val → Values → Values
 assigned true k x v = assign_global v k x
 assigned false k x v = assign v k x
+
+-- the same under a key that may have the value; no assignment begins with another one
+unfoldable pub with_fitting : Key → Bool → Val → RestState → RestState
+with_fitting k is_global x r = if fits k x then with_values (assigned is_global k x r.values) r else r
 
 -- \globaldefs above 0 makes each assignment global, and below 0 each a local one
 abbrev pub global_by : ℤ → Bool → Bool
@@ -54,7 +62,7 @@ is_global_def_in v is_global always = global_def_by (int_in v GlobalDefs) is_glo
 
 -- \afterassignment keeps a token no longer
 unfoldable pub without_kept : Values → Values
-without_kept v = change v key.AfterAssignment (val.Kept None)
+without_kept v = change v (key.Single singles.AfterAssignment) (val.Kept None)
 
 -- behind an assignment the token is read that \afterassignment keeps, once
 pub record Over : Type 0 where
@@ -75,6 +83,10 @@ scan_over o = planned o.rest (Used (insert_token o.kept))
 -- an assignment of a finisher is over
 abbrev pub value_over : Over → Finished
 value_over o = finished o.rest (Insert (insert_token o.kept))
+
+-- what goes on behind an error
+abbrev pub failing : List ℕ → Ended → Ended
+failing text e = record { then = e.then; did = did.Error (record { text = text; is_back = false; inserted = None }) }
 
 -- ---- prefixes
 

@@ -6,12 +6,14 @@ use Rattle.etx_macros.specs.OpenPatterns.{no_pattern, with_text, with_parameter,
 use Rattle.etx_state.specs.declared.key.Val.TheVariants as val
 use Rattle.etx_state.specs.declared.key.Meaning.{Meaning}
 use Rattle.etx_state.specs.declared.key.Meaning.TheVariants as means
+use Rattle.etx_prims.specs.declared.command.Primitive.TheVariants as prims
+use Rattle.etx_state.specs.declared.scan.AssignNumber.TheVariants as takes
+use Rattle.etx_state.specs.declared.taker.NumberScan.TheVariants as number
 use Rattle.etx_state.specs.declared.scan.Prefixes.{Prefixes}
 use Rattle.etx_state.specs.declared.scan.ParameterMark.{ParameterMark}
 use Rattle.etx_state.specs.declared.scan.Definition.{Definition}
 use Rattle.etx_state.specs.declared.scan.NameFor.{NameFor}
 use Rattle.etx_state.specs.declared.scan.NameFor.TheVariants as naming
-use Rattle.etx_state.specs.declared.scan.AssignScan.{AssignScan}
 use Rattle.etx_state.specs.declared.scan.AssignScan.TheVariants as assign
 use Rattle.etx_state.specs.declared.scan.Scan.{Scan}
 use Rattle.etx_state.specs.declared.scan.Scan.TheVariants as scan
@@ -24,11 +26,13 @@ use Rattle.etx_expand.specs.declared.plan.Did.TheVariants as did
 use Rattle.etx_macros.specs.declared.mark.Brace.{Brace}
 use Rattle.etx_macros.specs.declared.mark.Brace.TheVariants.{Left, Right, Neither}
 use Rattle.etx_macros.specs.Marks.{brace_of}
-use Rattle.etx_expand.specs.Answers.{Planned, reading, quiet, used, fails, fails_back}
+use Rattle.etx_expand.specs.Numbers.{integer}
+use Rattle.etx_expand.specs.Answers.{Planned, planned, reading, quiet, used, fails, fails_back}
 use Rattle.etx_expand.specs.Printing.{shown_name}
 use Rattle.etx_assign.specs.declared.naming.Target.{Target}
 use Rattle.etx_assign.specs.declared.naming.Target.TheVariants.{Blank, Given, Missing}
 use Rattle.etx_assign.specs.Assignments.{Over, key_of, assigned, over, scan_over}
+use Rattle.etx_assign.specs.Values.{number_scan}
 
 -- ---- the control sequence that is defined
 
@@ -47,19 +51,38 @@ abbrev pub definition_of : Prefixes → Bool → Token → Definition
 definition_of p is_expanded name = record { prefixes = p; is_expanded = is_expanded; name = name; pattern = no_pattern; marks = []; depth = 0; body = []; mark = None }
 
 -- what comes behind the control sequence
-abbrev pub behind_name : NameFor → Token → AssignScan
-behind_name (naming.Def p is_expanded) name = assign.Params (definition_of p is_expanded name)
-behind_name (naming.Let is_global) name = assign.LetEquals is_global name
-behind_name (naming.FutureLet is_global) name = assign.FutureFirst is_global name
+pub record BehindName : Type 0 where
+  pub rest : RestState
+  pub scan : Scan
 
-abbrev pub name_by : Target → NameFor → Token → Plan
-name_by Blank n t = quiet (Stay (scan.Assign (assign.Name n)))
-name_by Given n t = quiet (Begin (scan.Assign (behind_name n t)))
-name_by Missing n t = fails_back (codes "Missing control sequence inserted") (Begin (scan.Assign (behind_name n inaccessible)))
+abbrev pub behind : RestState → Scan → BehindName
+behind r s = record { rest = r; scan = s }
+
+-- what is to stand for a character or a register means \relax at first (section 1224)
+abbrev pub relaxed : Bool → Token → RestState → RestState
+relaxed is_global name r = with_values (assigned is_global (key_of name) (val.Means (means.Primitive prims.Relax)) r.values) r
+
+unfoldable pub behind_name : NameFor → Token → RestState → BehindName
+behind_name (naming.Def p is_expanded) name r = behind r (scan.Assign (assign.Params (definition_of p is_expanded name)))
+behind_name (naming.Let is_global) name r = behind r (scan.Assign (assign.LetEquals is_global name))
+behind_name (naming.FutureLet is_global) name r = behind r (scan.Assign (assign.FutureFirst is_global name))
+behind_name (naming.CharDef kind is_global) name r = behind (relaxed is_global name r) (number_scan (number.Equals integer) (takes.Character kind name is_global))
+behind_name (naming.RegisterDef kind is_global) name r = behind (relaxed is_global name r) (number_scan (number.Equals integer) (takes.RegisterName kind name is_global))
+
+abbrev pub name_given : BehindName → Planned
+name_given b = planned b.rest (Begin b.scan)
+
+abbrev pub name_missing : BehindName → Planned
+name_missing b = reading (fails_back (codes "Missing control sequence inserted") (Begin b.scan)) b.rest
+
+abbrev pub name_by : Target → NameFor → Token → RestState → Planned
+name_by Blank n t r = planned r (Stay (scan.Assign (assign.Name n)))
+name_by Given n t r = name_given (behind_name n t r)
+name_by Missing n t r = name_missing (behind_name n inaccessible r)
 
 -- spaces are skipped before the control sequence that is defined
-unfoldable pub name_row : NameFor → Token → Plan
-name_row n t = name_by (target_of t) n t
+unfoldable pub name_row : NameFor → Token → RestState → Planned
+name_row n t r = name_by (target_of t) n t r
 
 -- ---- the end of a definition
 
@@ -104,6 +127,9 @@ mark_of (means.Char code cat) = if cat == 6 then Some code else None
 mark_of means.Undefined = None
 mark_of (means.Primitive p) = None
 mark_of (means.Macro m) = None
+mark_of (means.CharGiven code) = None
+mark_of (means.MathGiven code) = None
+mark_of (means.Register kind number) = None
 mark_of means.Unexpanded = None
 mark_of means.EndTemplate = None
 

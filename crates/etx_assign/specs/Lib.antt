@@ -1,6 +1,9 @@
+pub mod Arithmetic
 pub mod Assignments
-pub mod Codes
 pub mod Definitions
+pub mod Lists
 pub mod Meanings
+pub mod Naming
 pub mod Prefixes
 pub mod Turn
+pub mod Values

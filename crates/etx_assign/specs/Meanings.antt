@@ -6,7 +6,7 @@ use Rattle.etx_state.specs.declared.key.Meaning.{Meaning}
 use Rattle.etx_state.specs.declared.scan.AssignScan.TheVariants as assign
 use Rattle.etx_state.specs.declared.scan.Scan.TheVariants as scan
 use Rattle.etx_state.specs.Rests.{RestState, with_values}
-use Rattle.etx_expand.specs.declared.plan.Move.TheVariants.{Begin, Stay}
+use Rattle.etx_expand.specs.declared.plan.Move.TheVariants.{Stay}
 use Rattle.etx_expand.specs.Answers.{Planned, planned}
 use Rattle.etx_expand.specs.Meanings.{has_category}
 use Rattle.etx_expand.specs.Numbers.{is_other}

@@ -2,13 +2,13 @@
 ghost use Rattle.std.specs.Prelude.{◌≡◌, OnOk, IfOk};
 ghost use Rattle.etx_state.specs.Fits.{Fits};
 ghost use Rattle.etx_state.specs.Rests.{rest_of, with_values, Keeps};
-ghost use Rattle.etx_assign.specs.Assignments.{key_of, assigned, without_kept, over, scan_over, value_over, is_global_in, is_global_def_in};
+ghost use Rattle.etx_assign.specs.Assignments.{key_of, assigned, with_fitting, without_kept, over, scan_over, value_over, is_global_in, is_global_def_in};
 
 use etx_expand::{Ended, Insert, Move, Plan, Then, finished, insert_token, quiet};
 use etx_groups::{assign, assign_global};
 use etx_matter::Token;
 use etx_prims::IntParam;
-use etx_state::{Key, Rest, Val};
+use etx_state::{Key, Rest, Single, Val};
 use std::alloc::AllocError;
 
 /// Where a control sequence has its meaning.
@@ -32,6 +32,24 @@ pub(crate) fn set(rest: &mut Rest, is_global: bool, key: Key, value: Val) -> Res
         assign_global(rest, key, value)
     } else {
         assign(rest, key, value)
+    }
+}
+
+/// The same under a key that may have the value; under another one nothing changes. (No assignment begins with such a key.)
+#[tactic(auto, unfolding(crate::specs::Assignments::with_fitting))]
+pub(crate) fn set_fitting(
+    rest: &mut Rest,
+    is_global: bool,
+    key: Key,
+    value: Val,
+) -> Result<(), AllocError>
+    ensures rest { OnOk result (rest_of rest.new ≡ with_fitting key is_global value (rest_of rest.old)) }
+    ensures kept { Keeps rest.old rest.new }
+{
+    if value.fits(key) {
+        set(rest, is_global, key, value)
+    } else {
+        Ok(())
     }
 }
 
@@ -67,7 +85,7 @@ fn drop_kept(rest: &mut Rest) -> Result<(), AllocError>
     ensures rest { OnOk result (rest_of rest.new ≡ with_values (without_kept (rest_of rest.old).values) (rest_of rest.old)) }
     ensures kept { Keeps rest.old rest.new }
 {
-    rest.set(Key::AfterAssignment, Val::Kept(None))
+    rest.set(Key::Single(Single::AfterAssignment), Val::Kept(None))
 }
 
 /// An assignment is over: the token that `\afterassignment` kept is handed out, to be read behind it.

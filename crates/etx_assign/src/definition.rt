@@ -20,6 +20,9 @@ pub(crate) fn mark_of(meaning: &Meaning) -> Option<u8>
         Meaning::Undefined => None,
         Meaning::Primitive(_) => None,
         Meaning::Macro(_) => None,
+        Meaning::CharGiven(_) => None,
+        Meaning::MathGiven(_) => None,
+        Meaning::Register { .. } => None,
         Meaning::Unexpanded => None,
         Meaning::EndTemplate => None,
     }

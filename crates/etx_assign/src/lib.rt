@@ -6,17 +6,20 @@
 //! manual for `\protected`.
 #![tactic(auto)]
 
+mod arithmetic;
 mod assignment;
+mod begun;
 mod body;
-mod code;
 mod definition;
 mod equals;
 mod law;
+mod lists;
 mod naming;
+mod numbers;
 mod parameters;
 mod prefix;
 mod turns;
 
 pub use law::each_assignment_goes_on;
-pub use prefix::{begin, is_assignment, no_prefixes, prefix_scan, with_prefix};
-pub use turns::{future, number, scan};
+pub use prefix::{begin, begin_register, is_assignment, no_prefixes, prefix_scan, with_prefix};
+pub use turns::{future, number, scan, text, word};

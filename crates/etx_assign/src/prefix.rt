@@ -1,22 +1,24 @@
 //! Prefixes, and what an assignment begins.
-ghost use Rattle.std.specs.Prelude.{◌≡◌, IfOk};
+ghost use Rattle.std.specs.Prelude.{◌≡◌, false, IfOk};
 ghost use Rattle.etx_state.specs.Rests.{rest_of};
 ghost use Rattle.etx_expand.specs.Printing.{shown_name};
 ghost use Rattle.etx_assign.specs.Assignments.{no_prefixes, with_prefix, is_for_definitions, is_assignment, definition_of, follower_of};
-ghost use Rattle.etx_assign.specs.Prefixes.{prefix_text, character_words, shown_primitive, shown_character, named, def_named, def_begun, let_begun, catcode_begun, code_begun, simple_begun, left_prefixes, irrelevant, other_begun, assignment_begun, prefix_scan, prefix_refused, prefixed, behind_by, character_behind, prefix_row};
+ghost use Rattle.etx_expand.specs.Answers.{plan_of};
+ghost use Rattle.etx_assign.specs.Assignments.{is_global_in};
+ghost use Rattle.etx_assign.specs.Naming.{named, let_begun};
+ghost use Rattle.etx_assign.specs.Values.{register_begun};
+ghost use Rattle.etx_assign.specs.Prefixes.{register_assigned, prefix_text, shown_primitive, shown_character, def_named, def_begun, left_prefixes, irrelevant, other_begun, assignment_begun, prefix_scan, prefix_refused, prefixed, behind_by, character_behind, prefix_row};
 
 use crate::assignment::{is_global_def_in, is_global_in, used};
+use crate::begun::{register_begun, simple_begun};
 use etx_expand::{
-    Insert, Move, Plan, Push, Start, fails_back, plan_of, push_escaped, push_name, push_printed,
-    quiet, start_ends, start_fails_back, starting,
+    Insert, Move, Plan, Push, Start, character_words, fails_back, plan_of, push_escaped,
+    push_meaning, push_name, push_printed, quiet, start_fails_back, starting,
 };
 use etx_lists::Bytes;
-use etx_matter::{End, Token};
-use etx_prims::{CodeKind, DefKind, LetKind, PrefixKind, Primitive, name_of};
-use etx_state::{
-    AssignNumber, AssignScan, Meaning, NameFor, NumberFinish, NumberForm, NumberScan, Prefixes,
-    Rest, Scan,
-};
+use etx_matter::Token;
+use etx_prims::{DefKind, LetKind, PrefixKind, Primitive, RegisterKind, name_of};
+use etx_state::{AssignScan, Meaning, NameFor, Prefixes, Rest, Scan};
 use std::alloc::AllocError;
 
 /// What a command is to the prefixes before it.
@@ -111,25 +113,6 @@ pub fn is_assignment(primitive: Primitive) -> bool
     }
 }
 
-/// What a character is, by its category.
-#[tactic(auto, unfolding(crate::specs::Prefixes::character_words))]
-fn character_words(cat: u8) -> &'static [u8]
-    ensures { result.now ≡ character_words cat }
-{
-    match cat {
-        1 => b"begin-group character ",
-        2 => b"end-group character ",
-        3 => b"math shift character ",
-        4 => b"alignment tab character ",
-        6 => b"macro parameter character ",
-        7 => b"superscript character ",
-        8 => b"subscript character ",
-        10 => b"blank space ",
-        11 => b"the letter ",
-        _ => b"the character ",
-    }
-}
-
 /// A command's name, in an error.
 fn shown_primitive(rest: &Rest, primitive: Primitive) -> Result<Bytes, AllocError>
     ensures { IfOk result (λ text. text ≡ shown_primitive (rest_of rest.now).values primitive) }
@@ -177,7 +160,7 @@ fn prefix_refused(rest: &Rest, what: Bytes) -> Result<Plan, AllocError>
 }
 
 /// The control sequence comes next that is defined.
-fn named(naming: NameFor) -> Start
+pub(crate) fn named(naming: NameFor) -> Start
     ensures { result ≡ named naming }
 {
     starting(Push::Begin(Scan::Assign(AssignScan::Name(naming))))
@@ -210,44 +193,12 @@ fn def_begun(rest: &Rest, kind: DefKind, prefixes: Prefixes) -> Start
 }
 
 /// What `\let` or `\futurelet` begins.
-fn let_begun(kind: LetKind, is_global: bool) -> Start
+pub(crate) fn let_begun(kind: LetKind, is_global: bool) -> Start
     ensures { result ≡ let_begun kind is_global }
 {
     match kind {
         LetKind::Let => named(NameFor::Let { is_global }),
         LetKind::FutureLet => named(NameFor::FutureLet { is_global }),
-    }
-}
-
-/// What `\catcode` begins: the character comes next whose category is set.
-fn catcode_begun(is_global: bool) -> Start
-    ensures { result ≡ catcode_begun is_global }
-{
-    starting(Push::Begin(Scan::Number {
-        scan: NumberScan::Start(NumberForm::Character),
-        finish: NumberFinish::Assign(AssignNumber::CatcodeOf { is_global }),
-    }))
-}
-
-/// What an assignment of a character's code begins.
-fn code_begun(kind: CodeKind, is_global: bool) -> Start
-    ensures { result ≡ code_begun kind is_global }
-{
-    match kind {
-        CodeKind::Cat => catcode_begun(is_global),
-        _ => start_ends(End::Unbuilt),
-    }
-}
-
-/// What an assignment begins that takes `\global` alone.
-#[tactic(auto, unfolding(crate::specs::Prefixes::simple_begun))]
-fn simple_begun(primitive: Primitive, is_global: bool) -> Start
-    ensures { result ≡ simple_begun primitive is_global }
-{
-    match primitive {
-        Primitive::Let(kind) => let_begun(kind, is_global),
-        Primitive::Code(kind) => code_begun(kind, is_global),
-        _ => start_ends(End::Unbuilt),
     }
 }
 
@@ -285,15 +236,20 @@ fn irrelevant(rest: &Rest, what: Bytes, prefixes: Prefixes) -> Result<Start, All
 }
 
 /// What an assignment begins that is no definition.
-fn other_begun(rest: &Rest, primitive: Primitive, prefixes: Prefixes) -> Result<Start, AllocError>
-    ensures { IfOk result (λ start. start ≡ other_begun primitive prefixes (rest_of rest.now).values) }
+fn other_begun(
+    rest: &Rest,
+    primitive: Primitive,
+    token: Token,
+    prefixes: Prefixes,
+) -> Result<Start, AllocError>
+    ensures { IfOk result (λ start. start ≡ other_begun primitive token prefixes (rest_of rest.now).values) }
 {
     if is_for_definitions(prefixes) {
         let what = shown_primitive(rest, primitive)?;
         irrelevant(rest, what, prefixes)
     } else {
         let is_global = is_global_in(rest, prefixes.is_global);
-        Ok(simple_begun(primitive, is_global))
+        simple_begun(rest, primitive, token, is_global)
     }
 }
 
@@ -310,21 +266,31 @@ fn definition_of(primitive: Primitive) -> Option<DefKind>
 
 /// What an assignment begins, behind these prefixes. Of the assignments that are to come it ends the job.
 #[tactic(auto, unfolding(crate::specs::Prefixes::assignment_begun))]
-pub fn begin(rest: &Rest, primitive: Primitive, prefixes: Prefixes) -> Result<Start, AllocError>
-    ensures { IfOk result (λ start. start ≡ assignment_begun primitive prefixes (rest_of rest.now).values) }
+pub fn begin(
+    rest: &Rest,
+    primitive: Primitive,
+    token: Token,
+    prefixes: Prefixes,
+) -> Result<Start, AllocError>
+    ensures { IfOk result (λ start. start ≡ assignment_begun primitive token prefixes (rest_of rest.now).values) }
 {
     match definition_of(primitive) {
         Some(kind) => Ok(def_begun(rest, kind, prefixes)),
-        None => other_begun(rest, primitive, prefixes),
+        None => other_begun(rest, primitive, token, prefixes),
     }
 }
 
 /// An assignment behind prefixes; another command takes none.
-fn prefixed(rest: &Rest, prefixes: Prefixes, primitive: Primitive) -> Result<Plan, AllocError>
-    ensures { IfOk result (λ plan. plan ≡ prefixed prefixes primitive (rest_of rest.now).values) }
+fn prefixed(
+    rest: &Rest,
+    prefixes: Prefixes,
+    primitive: Primitive,
+    token: Token,
+) -> Result<Plan, AllocError>
+    ensures { IfOk result (λ plan. plan ≡ prefixed prefixes primitive token (rest_of rest.now).values) }
 {
     if is_assignment(primitive) {
-        Ok(plan_of(begin(rest, primitive, prefixes)?))
+        Ok(plan_of(begin(rest, primitive, token, prefixes)?))
     } else {
         let what = shown_primitive(rest, primitive)?;
         prefix_refused(rest, what)
@@ -344,13 +310,18 @@ fn follower_of(primitive: Primitive) -> Follower
 }
 
 /// A command behind prefixes.
-fn behind_by(rest: &Rest, prefixes: Prefixes, primitive: Primitive) -> Result<Plan, AllocError>
-    ensures { IfOk result (λ plan. plan ≡ behind_by (follower_of primitive) prefixes primitive (rest_of rest.now).values) }
+fn behind_by(
+    rest: &Rest,
+    prefixes: Prefixes,
+    primitive: Primitive,
+    token: Token,
+) -> Result<Plan, AllocError>
+    ensures { IfOk result (λ plan. plan ≡ behind_by (follower_of primitive) prefixes primitive token (rest_of rest.now).values) }
 {
     match follower_of(primitive) {
         Follower::Nothing => Ok(quiet(Move::Stay(prefix_scan(prefixes)))),
         Follower::Prefix(kind) => Ok(quiet(Move::Stay(prefix_scan(with_prefix(kind, prefixes))))),
-        Follower::Command => prefixed(rest, prefixes, primitive),
+        Follower::Command => prefixed(rest, prefixes, primitive, token),
     }
 }
 
@@ -374,6 +345,39 @@ fn name_refused(rest: &Rest, token: Token) -> Result<Plan, AllocError>
     prefix_refused(rest, what)
 }
 
+/// A register that a control sequence stands for, behind prefixes.
+fn register_behind(
+    rest: &Rest,
+    prefixes: Prefixes,
+    kind: RegisterKind,
+    number: u16,
+    token: Token,
+) -> Result<Plan, AllocError>
+    ensures { IfOk result (λ plan. plan ≡ plan_of (register_assigned kind number token (Meaning.Register kind number) prefixes (rest_of rest.now))) }
+{
+    if is_for_definitions(prefixes) {
+        let meaning = Meaning::Register { kind, number };
+        let mut what = Bytes::new(rest.alloc());
+        push_meaning(rest, &mut what, token, &meaning)?;
+        return Ok(plan_of(irrelevant(rest, what, prefixes)?));
+    }
+    let is_global = is_global_in(rest, prefixes.is_global);
+    Ok(plan_of(register_begun(rest, kind, number, token, is_global)?))
+}
+
+/// A register that a control sequence stands for, without prefixes.
+pub fn begin_register(
+    rest: &Rest,
+    kind: RegisterKind,
+    number: u16,
+    token: Token,
+) -> Result<Start, AllocError>
+    ensures { IfOk result (λ start. start ≡ register_begun kind number token (is_global_in (rest_of rest.now).values false)) }
+{
+    let is_global = is_global_in(rest, false);
+    register_begun(rest, kind, number, token, is_global)
+}
+
 /// A token behind prefixes.
 #[tactic(auto, unfolding(crate::specs::Prefixes::prefix_row))]
 pub(crate) fn prefix_row(
@@ -386,9 +390,14 @@ pub(crate) fn prefix_row(
 {
     match meaning {
         Meaning::Char { code, cat } => character_behind(rest, prefixes, *code, *cat),
-        Meaning::Primitive(primitive) => behind_by(rest, prefixes, *primitive),
+        Meaning::Primitive(primitive) => behind_by(rest, prefixes, *primitive, token),
         Meaning::Undefined => name_refused(rest, token),
         Meaning::Macro(_) => name_refused(rest, token),
+        Meaning::CharGiven(_) => name_refused(rest, token),
+        Meaning::MathGiven(_) => name_refused(rest, token),
+        Meaning::Register { kind, number } => {
+            register_behind(rest, prefixes, *kind, *number, token)
+        }
         Meaning::Unexpanded => Ok(quiet(Move::Stay(prefix_scan(prefixes)))),
         Meaning::EndTemplate => name_refused(rest, token),
     }

@@ -5,22 +5,28 @@ ghost use Rattle.etx_state.specs.Mouths.{mouth_of};
 ghost use Rattle.etx_expand.specs.Answers.{quiet, used};
 ghost use Rattle.etx_expand.specs.Moves.{entered, put_back, insert_if};
 ghost use Rattle.etx_assign.specs.Assignments.{over};
-ghost use Rattle.etx_assign.specs.Turn.{noted_in, kept_for_later, assign_row, assign_token, number_turn, future_over, future_token, future_idle, future_with, future_turn};
+ghost use Rattle.etx_assign.specs.Turn.{word_plan, assign_word_turn, text_turn, noted_in, kept_for_later, assign_row, assign_token, number_turn, future_over, future_token, future_idle, future_with, future_turn};
 
+use crate::arithmetic::{arithmetic_row, by_row, by_word_row};
 use crate::assignment::{over, used};
 use crate::body::body_row;
-use crate::code::number_taken;
 use crate::equals::{give_meaning, let_equals_row, let_over, let_space_row};
+use crate::lists::{list_row, text_taken};
 use crate::naming::name_row;
+use crate::numbers::number_taken;
 use crate::parameters::params_row;
 use crate::prefix::prefix_row;
 use etx_expand::{
-    Fetched, Idle, Move, Plan, Turned, do_alone, enter, error_deed, expand_token, fetch_behind,
-    follow, insert_if, make, put_both_back, quiet,
+    Fetched, Idle, Move, Plan, Then, Turned, WordPlan, do_alone, enter, error_deed, expand_token,
+    fetch_behind, finished, follow, insert_if, make, make_word, put_both_back, quiet,
 };
+use etx_exprs::Value as Quantity;
 use etx_groups::after;
-use etx_matter::Token;
-use etx_state::{AssignNumber, AssignScan, Entry, Keeper, Key, Meaning, Rest, State, Val};
+use etx_matter::{Boxed, Token, Tokens};
+use etx_state::{
+    AssignNumber, AssignScan, AssignText, Entry, Keeper, Key, Meaning, Rest, Scan, Single, State,
+    Val,
+};
 use std::alloc::AllocError;
 
 /// `\aftergroup` notes a token in the innermost group.
@@ -41,7 +47,7 @@ fn kept_for_later(rest: &mut Rest, token: Token) -> Result<Plan, AllocError>
     ensures plan { IfOk result (λ plan. plan ≡ quiet used) }
     ensures kept { Keeps rest.old rest.new }
 {
-    rest.set(Key::AfterAssignment, Val::Kept(Some(token)))?;
+    rest.set(Key::Single(Single::AfterAssignment), Val::Kept(Some(token)))?;
     Ok(quiet(used()))
 }
 
@@ -49,17 +55,18 @@ fn kept_for_later(rest: &mut Rest, token: Token) -> Result<Plan, AllocError>
 #[tactic(auto, unfolding(crate::specs::Turn::assign_row))]
 fn assign_row(
     rest: &mut Rest,
+    line: u32,
     scan: AssignScan,
     token: Token,
     meaning: Meaning,
 ) -> Result<Plan, AllocError>
-    ensures rest { OnOk result (rest_of rest.new ≡ (assign_row scan token meaning (rest_of rest.old)).rest) }
-    ensures plan { IfOk result (λ plan. plan ≡ (assign_row scan token meaning (rest_of rest.old)).plan) }
+    ensures rest { OnOk result (rest_of rest.new ≡ (assign_row scan token meaning line (rest_of rest.old)).rest) }
+    ensures plan { IfOk result (λ plan. plan ≡ (assign_row scan token meaning line (rest_of rest.old)).plan) }
     ensures kept { Keeps rest.old rest.new }
 {
     match scan {
         AssignScan::Prefix(prefixes) => prefix_row(rest, prefixes, token, &meaning),
-        AssignScan::Name(naming) => name_row(rest.alloc(), naming, token),
+        AssignScan::Name(naming) => name_row(rest, naming, token),
         AssignScan::Params(definition) => params_row(rest, definition, token, &meaning),
         AssignScan::Body(definition) => body_row(rest, definition, token, &meaning),
         AssignScan::LetEquals { is_global, name } => {
@@ -72,6 +79,20 @@ fn assign_row(
         }
         AssignScan::AfterGroup => noted_in(rest, token),
         AssignScan::AfterAssignment => kept_for_later(rest, token),
+        AssignScan::Arithmetic { kind, is_global } => {
+            arithmetic_row(rest, kind, is_global, &meaning)
+        }
+        AssignScan::By {
+            kind,
+            is_global,
+            key,
+        } => by_row(rest, line, kind, key, is_global, token, &meaning),
+        AssignScan::List {
+            key,
+            is_global,
+            reader,
+            is_behind,
+        } => list_row(rest, key, is_global, reader, is_behind, token, &meaning),
     }
 }
 
@@ -86,7 +107,8 @@ pub fn scan(
     ensures now { OnOk result (mouth_of s.new ≡ (assign_token left scan token meaning (mouth_of s.old)).now) }
     ensures turned { IfOk result (λ t. t ≡ (assign_token left scan token meaning (mouth_of s.old)).turned) }
 {
-    let plan = assign_row(&mut s.rest, scan, token, meaning)?;
+    let line = s.input.line();
+    let plan = assign_row(&mut s.rest, line, scan, token, meaning)?;
     make(s, left, token, plan)
 }
 
@@ -95,12 +117,12 @@ pub fn number(
     s: &mut State,
     left: u8,
     taker: AssignNumber,
-    number: i32,
+    amount: Quantity,
 ) -> Result<Turned, AllocError>
-    ensures now { OnOk result (mouth_of s.new ≡ (number_turn left taker number (mouth_of s.old)).now) }
-    ensures turned { IfOk result (λ t. t ≡ (number_turn left taker number (mouth_of s.old)).turned) }
+    ensures now { OnOk result (mouth_of s.new ≡ (number_turn left taker amount (mouth_of s.old)).now) }
+    ensures turned { IfOk result (λ t. t ≡ (number_turn left taker amount (mouth_of s.old)).turned) }
 {
-    let ended = number_taken(&mut s.rest, taker, number)?;
+    let ended = number_taken(&mut s.rest, taker, amount)?;
     follow(s, left, ended)
 }
 
@@ -181,4 +203,53 @@ pub fn future(
         }
         Fetched::Idle(why) => future_idle(s, is_global, name, first, why),
     }
+}
+
+/// An assignment takes a text. After an `Err` the state is only dropped.
+pub fn text(
+    s: &mut State,
+    left: u8,
+    taker: AssignText,
+    text: Boxed<Tokens>,
+) -> Result<Turned, AllocError>
+    ensures now { OnOk result (mouth_of s.new ≡ (text_turn left taker text (mouth_of s.old)).now) }
+    ensures turned { IfOk result (λ t. t ≡ (text_turn left taker text (mouth_of s.old)).turned) }
+{
+    let ended = text_taken(&mut s.rest, taker, text)?;
+    follow(s, left, ended)
+}
+
+/// What becomes of a word that assignments read. Only arithmetic reads one.
+#[tactic(auto, unfolding(crate::specs::Turn::word_plan))]
+fn word_plan(
+    rest: &Rest,
+    scan: AssignScan,
+    letters: &[Token],
+    token: Token,
+) -> Result<WordPlan, AllocError>
+    ensures { IfOk result (λ plan. plan ≡ word_plan scan letters.now token) }
+{
+    match scan {
+        AssignScan::By {
+            kind,
+            is_global,
+            key,
+        } => by_word_row(rest, kind, key, is_global, letters, token),
+        scan => Ok(WordPlan::Lost(finished(Then::More(Scan::Assign(scan))))),
+    }
+}
+
+/// A scan of assignments that reads a word gets a token. After an `Err` the state is only dropped.
+pub fn word(
+    s: &mut State,
+    left: u8,
+    scan: AssignScan,
+    letters: Boxed<Tokens>,
+    token: Token,
+) -> Result<Turned, AllocError>
+    ensures now { OnOk result (mouth_of s.new ≡ (assign_word_turn left scan letters token (mouth_of s.old)).now) }
+    ensures turned { IfOk result (λ t. t ≡ (assign_word_turn left scan letters token (mouth_of s.old)).turned) }
+{
+    let plan = word_plan(&s.rest, scan, letters.get().as_slice(), token)?;
+    make_word(s, left, letters, token, plan)
 }

@@ -105,8 +105,8 @@ pub enum Dvi {
         magnification: i32,
     },
     /// Begins the postamble: the place of the last page or -1, the magnification times 1000, the greatest height plus
-    /// depth and the greatest width of a page, the greatest number of open `Push`, and the number of pages, both modulo
-    /// 65536.
+    /// depth of a page with the offset down, the greatest width with the offset to the right (sp, "TeX: The Program",
+    /// section 641), the greatest number of open `Push`, and the number of pages, both modulo 65536.
     Post {
         last: i32,
         magnification: i32,

@@ -1,14 +1,16 @@
 -- EACH TURN goes on: the central lemmas hold for any plan, any start and any finisher, so no row owes anything.
-use Rattle.std.proofs.Common.{◌≡◌, ℕ, zero, suc, ◌+◌, ◌*◌, ◌<◌, ◌≤◌, inl, inr, ◌⊎◌, Bool, true, false, List, [], ◌∷◌, length, Option, Some, None, refl, sym, subst, arith}
+use Rattle.std.proofs.Common.{◌≡◌, ℕ, zero, suc, ◌+◌, ◌-◌, ◌*◌, ◌<◌, ◌≤◌, nat_le, ◌++◌, ◌∙◌, inl, inr, ◌⊎◌, Bool, true, false, List, [], ◌∷◌, length, Option, Some, None, refl, sym, subst, arith}
+use Rattle.std.proofs.lemmas.Bool.Decides.{nat_tests}
+use Rattle.std.proofs.lemmas.List.{length-append}
 use Rattle.etx_matter.specs.declared.token.Token.{Token}
-use Rattle.etx_matter.specs.declared.deed.Deed.{Deed}
 use Rattle.etx_matter.specs.declared.deed.Deed.TheVariants as deed
 use Rattle.etx_input.specs.Levels.{with_list}
 use Rattle.etx_input.specs.declared.origin.Origin.{Origin}
 use Rattle.etx_input.specs.declared.origin.Origin.TheVariants as origin
 use Rattle.etx_state.specs.declared.scan.ExpansionScan.{ExpansionScan}
-use Rattle.etx_state.specs.declared.scan.NumberScan.{NumberScan}
-use Rattle.etx_state.specs.declared.scan.NumberFinish.{NumberFinish}
+use Rattle.etx_input.specs.Levels.{line_number}
+use Rattle.etx_state.specs.declared.taker.NumberScan.{NumberScan}
+use Rattle.etx_state.specs.declared.taker.Taker.{Taker}
 use Rattle.etx_state.specs.declared.scan.OpenText.{OpenText}
 use Rattle.etx_state.specs.declared.scan.TextFinish.{TextFinish}
 use Rattle.etx_state.specs.declared.scan.Value.{Value}
@@ -40,16 +42,20 @@ use Rattle.etx_expand.specs.declared.plan.Push.{Push}
 use Rattle.etx_expand.specs.declared.plan.Push.TheVariants as push
 use Rattle.etx_expand.specs.declared.plan.Then.{Then}
 use Rattle.etx_expand.specs.declared.plan.Then.TheVariants as afterwards
+use Rattle.etx_expand.specs.declared.plan.WordPlan.{WordPlan}
+use Rattle.etx_expand.specs.declared.plan.WordPlan.TheVariants as words
+use Rattle.etx_expand.specs.declared.plan.Ended.{Ended}
 use Rattle.etx_expand.specs.declared.plan.Turned.{Turned}
 use Rattle.etx_expand.specs.declared.plan.Turned.TheVariants as turned
 use Rattle.etx_expand.specs.Answers.{Planned, Begun, Finished, reading}
-use Rattle.etx_expand.specs.Moves.{After, after, charged, read_next, put_back, entered, scanning, most_stages, inserted, back_if, insert_if, failed, beside, beside_value, error_deed, turned_by, made, planned_turn, pushed, begun_turn, more, followed, finished_turn}
+use Rattle.etx_expand.specs.Moves.{After, after, charged, read_next, put_back, entered, scanning, most_stages, inserted, back_if, insert_if, failed, beside, beside_value, error_deed, turned_by, made, planned_turn, pushed, begun_turn, more, more_given, followed, finished_turn, letters_back, charged_if, letter_kept, word_turn}
 use Rattle.etx_expand.specs.Getting.{Getting, watch_by, watch_of, got_of}
 use Rattle.etx_expand.specs.Calls.{cut_off}
 use Rattle.etx_expand.specs.Meanings.{reading_of, keeper_reading, wanted}
-use Rattle.etx_expand.specs.Measure.{turn_weight, say_weight, given_weight, scan_weight, stage_weight, begun_weight, back_weight, held_weight, tokens_weight, levels_weight, entry_weight, weight, Steps, PaidFor, PaysFor, Falls, FallsBy, Comes, Goes}
-use Rattle.etx_expand.specs.Turn.{Fetching, wanted_as, fetched_as, fetched_by, scan_fetched, keeper_fetched, main_fetched, expanded, expanded_turn, idle_turn, expansion_row, expansion_token, number_token, text_token, kept_idle, kept_with, expand_after_turn, due_turn, say_turn}
-use Rattle.etx_expand.specs.Numbers.{number_row}
+use Rattle.etx_expand.specs.Measure.{turn_weight, say_weight, given_weight, scan_weight, stage_weight, begun_weight, back_weight, held_weight, letters_weight, tokens_weight, levels_weight, entry_weight, weight, Steps, PaidFor, PaysFor, Falls, Comes, Goes}
+use Rattle.etx_expand.specs.Turn.{Fetching, wanted_as, fetched_as, fetched_by, scan_fetched, keeper_fetched, main_fetched, expanded_turn, idle_turn, expansion_row, expansion_token, number_token, text_token, kept_idle, kept_with, expand_after_turn, due_turn, say_turn}
+use Rattle.etx_expand.specs.Expressions.{number_row}
+use Rattle.etx_expand.specs.Expanding.{expansion_begun}
 use Rattle.etx_expand.specs.Texts.{text_row}
 use Rattle.etx_state.specs.declared.key.Meaning.{Meaning}
 use Rattle.etx_expand.proofs.Gotten.{PaidGot, Pays, got_pays}
@@ -74,11 +80,17 @@ kept_adds : (t : Token) (m : Mouth) → Adds back_weight m (read_next origin.Une
 unfolding with_list
 kept_adds t m = record { spent = refl; weight = omega arith }
 
+as_it_is_adds : (ts : List Token) (m : Mouth) → Adds 0 m (read_next origin.Kept ts m)
+unfolding with_list
+as_it_is_adds [] m = record { spent = refl; weight = omega arith }
+as_it_is_adds (t ∷ ts) m = record { spent = refl; weight = omega arith }
+
 inserted_adds : (i : Insert) (m : Mouth) → Adds 0 m (inserted i m)
 unfolding inserted
 inserted_adds insert.Nothing m = record { spent = refl; weight = omega arith }
 inserted_adds (insert.Token t) m = next_adds (t ∷ []) m
 inserted_adds (insert.Text ts) m = next_adds ts m
+inserted_adds (insert.Kept ts) m = as_it_is_adds ts m
 
 back_if_spent : (b : Bool) (t : Token) (m : Mouth) → (back_if b t m).spent ≡ m.spent
 back_if_spent true t m = refl
@@ -93,14 +105,14 @@ insert_if_adds (Some t) m = next_adds (t ∷ []) m
 beside_spent : (t : Token) (d : Did) (m : Mouth) → (beside t d m).spent ≡ m.spent
 unfolding beside
 beside_spent t did.Nothing m = refl
-beside_spent t (did.Deed d) m = refl
+beside_spent t did.Space m = refl
 beside_spent t (did.Error f) m = let h = insert_if_adds f.inserted (back_if f.is_back t m) in let k = back_if_spent f.is_back t m in cc (h.spent, k)
 beside_spent t (did.End e) m = refl
 
 beside_value_spent : (d : Did) (m : Mouth) → (beside_value d m).spent ≡ m.spent
 unfolding beside_value
 beside_value_spent did.Nothing m = refl
-beside_value_spent (did.Deed d) m = refl
+beside_value_spent did.Space m = refl
 beside_value_spent (did.Error f) m = (insert_if_adds f.inserted m).spent
 beside_value_spent (did.End e) m = refl
 
@@ -108,24 +120,17 @@ falls_less : (n : ℕ) (old new : Mouth) → n ≤ turn_weight → Falls turn_we
 falls_less n old new h (inl forth) = inl forth
 falls_less n old new h (inr less) = inr (less.0, omega (arith, less.1, h))
 
-deed_falls : (d : Deed) (old new : Mouth) → Falls turn_weight old new → FallsBy d old new
-deed_falls (deed.Fresh a) old new h = falls_less 1 old new (omega arith) h
-deed_falls (deed.Space a) old new h = falls_less 1 old new (omega arith) h
-deed_falls (deed.Text b a) old new h = falls_less 1 old new (omega arith) h
-deed_falls (deed.Error b l a) old new h = tt
-deed_falls (deed.Create n) old new h = falls_less 1 old new (omega arith) h
-
 beside_comes : (t : Token) (d : Did) (old m : Mouth) → Falls turn_weight old m → Comes (turned_by d m) old (beside t d m)
 unfolding beside turned_by
 beside_comes t did.Nothing old m h = falls_less 1 old m (omega arith) h
-beside_comes t (did.Deed d) old m h = deed_falls d old m h
+beside_comes t did.Space old m h = falls_less 1 old m (omega arith) h
 beside_comes t (did.Error f) old m h = tt
 beside_comes t (did.End e) old m h = tt
 
 beside_value_comes : (d : Did) (old m : Mouth) → Falls turn_weight old m → Comes (turned_by d m) old (beside_value d m)
 unfolding beside_value turned_by
 beside_value_comes did.Nothing old m h = falls_less 1 old m (omega arith) h
-beside_value_comes (did.Deed d) old m h = deed_falls d old m h
+beside_value_comes did.Space old m h = falls_less 1 old m (omega arith) h
 beside_value_comes (did.Error f) old m h = tt
 beside_value_comes (did.End e) old m h = tt
 
@@ -165,9 +170,10 @@ made_fits left t (move.Gives v) m = inr (refl, omega arith)
 made_fits left t (move.GivesBack v) m = let h = back_adds t m in inr (h.spent, omega (arith, h.weight))
 made_fits left t (move.Hold by) m = inr (refl, omega arith)
 made_fits left t move.Unexpanded m = let h = kept_adds t m in inr (h.spent, omega (arith, h.weight))
+made_fits left t (move.Letter s) m = inr (refl, omega arith)
 
 -- a token was paid for, and what was made of it fits
-fits_falls : (n k : ℕ) (old m new : Mouth) → Falls n old m → Steps 1 old m → Fits (n + k) m new → (top : Mouth) → top.spent ≡ old.spent → weight top ≡ weight old + k → Falls turn_weight top new
+fits_falls : (n k : ℕ) (old m new : Mouth) → Falls n old m → Steps 1 old m → Fits (n + k) m new → (top : Mouth) → top.spent ≡ old.spent → weight old + k ≤ weight top → Falls turn_weight top new
 fits_falls n k old m new (inl paid) s (inl one) top same is = inl (omega (arith, one, paid, same))
 fits_falls n k old m new (inl paid) s (inr f) top same is = inl (omega (arith, f.0, paid, same))
 fits_falls n k old m new (inr paid) s (inl one) top same is = inl (omega (arith, one, paid.0, same))
@@ -186,12 +192,15 @@ fits_alone n old new (inl one) = inl one
 fits_alone n old new (inr f) = inr (f.0, omega (arith, f.1))
 
 -- WHATEVER A SCAN'S ROW HAS PLANNED, the turn goes on
-pub planned_goes : (left : ℕ) (s : Scan) (t : Token) (p : Planned) (old m : Mouth) → Falls back_weight old m → Steps 1 old m → Goes (scanning left s old) (planned_turn left t p m)
-planned_goes left s t p old m paid steps =
+planned_over : (left : ℕ) (t : Token) (p : Planned) (old m top : Mouth) → top.spent ≡ old.spent → weight old + scan_worth left ≤ weight top → Falls back_weight old m → Steps 1 old m → Goes top (planned_turn left t p m)
+planned_over left t p old m top same is paid steps =
     let fits = made_fits left t p.plan.go (with_rest p.rest m) in
-    beside_goes t p.plan.did (scanning left s old) (made left t p.plan.go (with_rest p.rest m))
-    (fits_falls back_weight (scan_worth left) old (with_rest p.rest m) (made left t p.plan.go (with_rest p.rest m)) paid (rest_steps p.rest 1 old m steps) fits (scanning left s old) refl (omega arith))
-    (fits_steps (back_weight + scan_worth left) old (with_rest p.rest m) (made left t p.plan.go (with_rest p.rest m)) (rest_steps p.rest 1 old m steps) fits (scanning left s old) refl)
+    beside_goes t p.plan.did top (made left t p.plan.go (with_rest p.rest m))
+    (fits_falls back_weight (scan_worth left) old (with_rest p.rest m) (made left t p.plan.go (with_rest p.rest m)) paid (rest_steps p.rest 1 old m steps) fits top same is)
+    (fits_steps (back_weight + scan_worth left) old (with_rest p.rest m) (made left t p.plan.go (with_rest p.rest m)) (rest_steps p.rest 1 old m steps) fits top same)
+
+pub planned_goes : (left : ℕ) (s : Scan) (t : Token) (p : Planned) (old m : Mouth) → Falls back_weight old m → Steps 1 old m → Goes (scanning left s old) (planned_turn left t p m)
+planned_goes left s t p old m paid steps = planned_over left t p old m (scanning left s old) refl (omega arith) paid steps
 
 -- ---- any start
 
@@ -221,6 +230,8 @@ followed_fits (suc n) (afterwards.More s) m = inr (refl, omega arith)
 followed_fits zero (afterwards.MoreBehind a s) m = inl refl
 followed_fits (suc n) (afterwards.MoreBehind a s) m = inr (refl, omega arith)
 followed_fits left (afterwards.Say text) m = inr (refl, omega arith)
+followed_fits zero (afterwards.Gives v) m = inl refl
+followed_fits (suc n) (afterwards.Gives v) m = inr (refl, omega arith)
 
 -- WHATEVER A FINISHER DECIDES, the turn goes on
 pub finished_goes : (left : ℕ) (v : Value) (f : Finished) (m : Mouth) → Goes (entered (entry.Given left v) m) (finished_turn left f m)
@@ -229,6 +240,61 @@ finished_goes left v f m =
     beside_value_goes f.ended.did (entered (entry.Given left v) m) (followed left f.ended.then (with_rest f.rest m))
     (fits_falls 0 (given_worth left) m (with_rest f.rest m) (followed left f.ended.then (with_rest f.rest m)) (inr (refl, omega arith)) (record { forth = omega arith; few = omega arith }) (fits_alone (given_worth left) (with_rest f.rest m) (followed left f.ended.then (with_rest f.rest m)) fits) (entered (entry.Given left v) m) refl (omega arith))
     (fits_steps (given_worth left) m (with_rest f.rest m) (followed left f.ended.then (with_rest f.rest m)) (record { forth = omega arith; few = omega arith }) fits (entered (entry.Given left v) m) refl)
+
+-- ---- any word
+
+letters_add : (ls : List Token) (m : Mouth) → Adds (back_weight * length ls) m (letters_back ls m)
+unfolding letters_back
+letters_add [] m = record { spent = refl; weight = omega arith }
+letters_add (t ∷ ts) m =
+    let h = letters_add ts m in
+    let k = back_adds t (letters_back ts m) in
+    record { spent = k.spent ∙ h.spent; weight = omega (arith, h.weight, k.weight) }
+
+not_le : (n : ℕ) → nat_le 7 n ≡ false → n < 7
+not_le n e = grind (arith, nat_tests)
+
+letter_falls : (left : ℕ) (ls : List Token) (s s' : Scan) (t : Token) (old m : Mouth) → length ls < 7 → Falls back_weight old m → Falls 1 (entered (entry.Word left ls s) old) (entered (entry.Word left (ls ++ t ∷ []) s') m)
+letter_falls left ls s s' t old m few (inl forth) = inl forth
+letter_falls left ls s s' t old m few (inr less) =
+    let long = length-append ls (t ∷ []) in
+    inr (less.0, omega (arith, less.1, few, long))
+
+letter_goes : (left : ℕ) (ls : List Token) (s s' : Scan) (t : Token) (old m : Mouth) → Falls back_weight old m → Steps 1 old m → Goes (entered (entry.Word left ls s) old) (after (letter_kept left ls t s' m) turned.Again)
+letter_goes left ls s s' t old m paid steps = by (nat_le 7 (length ls)) refl
+  where
+    by : (b : Bool) → nat_le 7 (length ls) ≡ b → Goes (entered (entry.Word left ls s) old) (after (entered (entry.Word left (ls ++ t ∷ []) s') (charged_if b m)) turned.Again)
+    by true e = record { comes = inl (omega (arith, steps.forth)); forth = omega (arith, steps.forth); few = omega (arith, steps.few) }
+    by false e = record { comes = letter_falls left ls s s' t old m (not_le (length ls) e) paid; forth = steps.forth; few = omega (arith, steps.few) }
+
+-- the letters and the token behind them are read again, and what comes then fits
+lost_falls : (left : ℕ) (ls : List Token) (s : Scan) (old m n new : Mouth) → Falls back_weight old m → Steps 1 old m → n.spent ≡ m.spent → weight n ≤ weight m + back_weight + back_weight * length ls → Fits (given_worth left) n new → Falls turn_weight (entered (entry.Word left ls s) old) new
+lost_falls left ls s old m n new (inl paid) steps same le (inl one) = inl (omega (arith, one, paid, same))
+lost_falls left ls s old m n new (inl paid) steps same le (inr f) = inl (omega (arith, f.0, paid, same))
+lost_falls left ls s old m n new (inr paid) steps same le (inl one) = inl (omega (arith, one, paid.0, same))
+lost_falls left ls s old m n new (inr paid) steps same le (inr f) = inr (omega (arith, f.0, paid.0, same), omega (arith, f.1, paid.1, le))
+
+-- the mouth where they are read again
+abbrev lost_mouth : List Token → Token → Mouth → Mouth
+lost_mouth ls t m = with_rest m.rest (letters_back ls (put_back t m))
+
+lost_goes : (left : ℕ) (ls : List Token) (s : Scan) (t : Token) (e : Ended) (old m : Mouth) → Falls back_weight old m → Steps 1 old m → Goes (entered (entry.Word left ls s) old) (finished_turn left (record { rest = m.rest; ended = e }) (letters_back ls (put_back t m)))
+lost_goes left ls s t e old m paid steps =
+    let h = letters_add ls (put_back t m) in
+    let k = back_adds t m in
+    let same : (lost_mouth ls t m).spent ≡ m.spent = h.spent ∙ k.spent in
+    let le : weight (lost_mouth ls t m) ≤ weight m + back_weight + back_weight * length ls = omega (arith, h.weight, k.weight) in
+    let fits = followed_fits left e.then (lost_mouth ls t m) in
+    beside_value_goes e.did (entered (entry.Word left ls s) old) (followed left e.then (lost_mouth ls t m))
+    (lost_falls left ls s old m (lost_mouth ls t m) (followed left e.then (lost_mouth ls t m)) paid steps same le fits)
+    (fits_steps (given_worth left) old (lost_mouth ls t m) (followed left e.then (lost_mouth ls t m)) (record { forth = omega (arith, same, steps.forth); few = omega (arith, same, steps.few) }) fits (entered (entry.Word left ls s) old) refl)
+
+-- WHATEVER BECOMES OF A WORD, the turn goes on
+pub word_goes : (left : ℕ) (ls : List Token) (s : Scan) (t : Token) (p : WordPlan) (old m : Mouth) → Falls back_weight old m → Steps 1 old m → Goes (entered (entry.Word left ls s) old) (word_turn left ls t p m)
+unfolding word_turn
+word_goes left ls s t (words.Letter s') old m paid steps = letter_goes left ls s s' t old m paid steps
+word_goes left ls s t (words.Found p) old m paid steps = planned_over left t (record { rest = m.rest; plan = p }) old m (entered (entry.Word left ls s) old) refl (omega arith) paid steps
+word_goes left ls s t (words.Lost e) old m paid steps = lost_goes left ls s t e old m paid steps
 
 -- ---- what was fetched was paid for
 
@@ -272,7 +338,7 @@ comes_above (turned.Deed (deed.Fresh a)) e old new h = falls_above 1 e e old new
 comes_above (turned.Deed (deed.Space a)) e old new h = falls_above 1 e e old new (omega arith) h
 comes_above (turned.Deed (deed.Text b a)) e old new h = falls_above 1 e e old new (omega arith) h
 comes_above (turned.Deed (deed.Error b l a)) e old new h = tt
-comes_above (turned.Deed (deed.Create n)) e old new h = falls_above 1 e e old new (omega arith) h
+comes_above (turned.Deed (deed.Create n)) e old new h = absurd h
 comes_above (turned.End e') e old new h = tt
 
 pub steps_more : (old new : Mouth) → Steps 1 old new → Steps 2 old new
@@ -294,7 +360,7 @@ pub free_cut : (text : List ℕ) (old m : Mouth) → Steps 1 old m → Goes old 
 free_cut text old m steps = record { comes = tt; forth = steps.forth; few = omega (arith, steps.few) }
 
 pub expanded_goes : (what : Expandable) (t : Token) (old m : Mouth) → Falls back_weight old m → Steps 1 old m → Goes old (expanded_turn what t m)
-expanded_goes what t old m paid steps = begun_goes t (expanded what t m.rest) old m paid steps
+expanded_goes what t old m paid steps = begun_goes t (expansion_begun what t (line_number m.input) m.rest) old m paid steps
 
 pub above_steps : (e f : Entry) (old m : Mouth) → Steps 1 old m → Steps 1 (entered e old) (entered f m)
 above_steps e f old m steps = record { forth = steps.forth; few = steps.few }
@@ -308,10 +374,10 @@ idle_goes left s (idle.Cut text) old m paid steps = cut_goes (entry.Scan left s)
 -- ---- the turns of expansion's entries
 
 pub expansion_goes : (left : ℕ) (e : ExpansionScan) (t : Token) (mm : Meaning) (old m : Mouth) → Falls back_weight old m → Steps 1 old m → Goes (scanning left (scan.Expansion e) old) (expansion_token left e t mm m)
-expansion_goes left e t mm old m paid steps = planned_goes left (scan.Expansion e) t (expansion_row e t mm m.rest) old m paid steps
+expansion_goes left e t mm old m paid steps = planned_goes left (scan.Expansion e) t (expansion_row e t mm (line_number m.input) m.rest) old m paid steps
 
-pub number_goes : (left : ℕ) (k : NumberScan) (f : NumberFinish) (t : Token) (mm : Meaning) (old m : Mouth) → Falls back_weight old m → Steps 1 old m → Goes (scanning left (scan.Number k f) old) (number_token left k f t mm m)
-number_goes left k f t mm old m paid steps = planned_goes left (scan.Number k f) t (reading (number_row k f t mm m.rest) m.rest) old m paid steps
+pub number_goes : (left : ℕ) (k : NumberScan) (taker : Taker) (t : Token) (mm : Meaning) (old m : Mouth) → Falls back_weight old m → Steps 1 old m → Goes (scanning left (scan.Number k taker) old) (number_token left k taker t mm m)
+number_goes left k taker t mm old m paid steps = planned_goes left (scan.Number k taker) t (reading (number_row k taker t mm (line_number m.input) m.rest) m.rest) old m paid steps
 
 pub text_goes : (left : ℕ) (o : OpenText) (f : TextFinish) (t : Token) (mm : Meaning) (old m : Mouth) → Falls back_weight old m → Steps 1 old m → Goes (scanning left (scan.Text o f) old) (text_token left o f t mm m)
 text_goes left o f t mm old m paid steps = planned_goes left (scan.Text o f) t (reading (text_row o f t mm) m.rest) old m paid steps

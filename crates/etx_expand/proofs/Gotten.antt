@@ -9,7 +9,7 @@ use Rattle.etx_lexer.specs.declared.lexed.Lexed.TheVariants as lexed
 use Rattle.etx_input.specs.Files.{FileState, got_of as file_got}
 use Rattle.etx_input.specs.Levels.{InputState, Given, list_given, file_given, given_in, given_of}
 use Rattle.etx_input.specs.declared.origin.Origin.{Origin}
-use Rattle.etx_input.specs.declared.origin.Origin.TheVariants.{Fresh, Back, Unexpanded}
+use Rattle.etx_input.specs.declared.origin.Origin.TheVariants.{Fresh, Back, Unexpanded, Kept}
 use Rattle.etx_input.specs.declared.level.Level.{Level}
 use Rattle.etx_input.specs.declared.level.Level.TheVariants as level
 use Rattle.etx_input.specs.declared.levels.Next.{Next}
@@ -42,10 +42,12 @@ list_weighs : (ts : List Token) (o : Origin) (ls : List Level) (left : ℕ) (mor
 list_weighs [] Fresh ls left more is = omega (arith, is)
 list_weighs [] Back ls left more is = omega (arith, is)
 list_weighs [] Unexpanded ls left more is = omega (arith, is)
+list_weighs [] Kept ls left more is = omega (arith, is)
 list_weighs (t ∷ []) o ls left more is = omega arith
 list_weighs (t ∷ u ∷ ts) Fresh ls left more is = omega arith
 list_weighs (t ∷ u ∷ ts) Back ls left more is = omega arith
 list_weighs (t ∷ u ∷ ts) Unexpanded ls left more is = omega arith
+list_weighs (t ∷ u ∷ ts) Kept ls left more is = omega arith
 
 file_weighs : (x : Option Lexed) (f : FileState) (ls : List Level) (left : ℕ) → levels_weight (file_given x f ls left).input.levels + gift_weight (file_given x f ls left).next ≤ file_weight + levels_weight ls
 file_weighs None f ls left = omega arith
@@ -89,12 +91,18 @@ admitted_pays (watch.Matching name) t mm old m paid steps = by (is_outer mm)
     by : (b : Bool) → Pays old (if b then forbidden (watch.Matching name) t m else getting m (got.Token t mm))
     by true = record { paid = tt; steps = record { forth = steps.forth; few = steps.few } }
     by false = record { paid = paid; steps = steps }
+admitted_pays (watch.Skipping line) t mm old m paid steps = by (is_outer mm)
+  where
+    by : (b : Bool) → Pays old (if b then forbidden (watch.Skipping line) t m else getting m (got.Token t mm))
+    by true = record { paid = tt; steps = record { forth = steps.forth; few = steps.few } }
+    by false = record { paid = paid; steps = steps }
 
 token_pays : (w : Watch) (t : Token) (o : Origin) (old m : Mouth) → Falls back_weight old m → Steps 1 old m → Pays old (token_got w t o m)
 unfolding token_got
 token_pays w t Fresh old m paid steps = admitted_pays w t (token_meaning m.rest.values t) old m paid steps
 token_pays w t Back old m paid steps = admitted_pays w t (token_meaning m.rest.values t) old m paid steps
 token_pays w t Unexpanded old m paid steps = record { paid = paid; steps = steps }
+token_pays w t Kept old m paid steps = record { paid = paid; steps = steps }
 
 name_pays : (w : Watch) (name : List ℕ) (old m : Mouth) → m.spent ≡ old.spent + 1 → Pays old (name_got w name m)
 unfolding name_got turned_by
@@ -117,12 +125,14 @@ ended_pays watch.Nothing old m same less = record { paid = inr (same, less); ste
 ended_pays (watch.Defining name) old m same less = record { paid = tt; steps = record { forth = omega (arith, same); few = omega (arith, same) } }
 ended_pays (watch.Absorbing name) old m same less = record { paid = tt; steps = record { forth = omega (arith, same); few = omega (arith, same) } }
 ended_pays (watch.Matching name) old m same less = record { paid = tt; steps = record { forth = omega (arith, same); few = omega (arith, same) } }
+ended_pays (watch.Skipping line) old m same less = record { paid = tt; steps = record { forth = omega (arith, same); few = omega (arith, same) } }
 
 next_pays : (w : Watch) (x : Next) (i : InputState) (m : Mouth) → levels_weight i.levels + gift_weight x ≤ levels_weight m.input.levels → Pays m (next_got w x (with_input i m))
 unfolding turned_by
 next_pays w (next.Listed t Fresh) i m is = token_pays w t Fresh m (charged 1 (with_input i m)) (inl (omega arith)) (record { forth = omega arith; few = omega arith })
 next_pays w (next.Listed t Back) i m is = token_pays w t Back m (charged 0 (with_input i m)) (inr (omega arith, omega (arith, is))) (record { forth = omega arith; few = omega arith })
 next_pays w (next.Listed t Unexpanded) i m is = token_pays w t Unexpanded m (charged 0 (with_input i m)) (inr (omega arith, omega (arith, is))) (record { forth = omega arith; few = omega arith })
+next_pays w (next.Listed t Kept) i m is = token_pays w t Kept m (charged 1 (with_input i m)) (inl (omega arith)) (record { forth = omega arith; few = omega arith })
 next_pays w (next.Lexed x) i m is = lexed_pays w x m (with_input i m) refl
 next_pays w next.FileEnd i m is = ended_pays w m (with_input i m) refl (omega (arith, is))
 next_pays w next.Over i m is = record { paid = tt; steps = record { forth = omega arith; few = omega arith } }

@@ -98,8 +98,12 @@ plan_of s = record { go = move_of s.push; did = s.did }
 
 -- ---- finishers
 
+-- nothing is done beside
+abbrev pub quiet_end : Then → Ended
+quiet_end t = record { then = t; did = did.Nothing }
+
 abbrev pub finished : RestState → Then → Finished
-finished r t = record { rest = r; ended = record { then = t; did = did.Nothing } }
+finished r t = record { rest = r; ended = quiet_end t }
 
 abbrev pub value_ends : End → RestState → Finished
 value_ends e r = record { rest = r; ended = record { then = afterwards.Insert insert.Nothing; did = did.End e } }

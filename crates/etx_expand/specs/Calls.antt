@@ -69,16 +69,12 @@ call_row c t r = if is_extra c.matcher t then extra_brace c r else fed_by (fed_o
 
 -- A call that is cut off goes on as that of a macro which isn't long. Other scans go on as they were.
 abbrev pub expansion_cut : ExpansionScan → ExpansionScan
-expansion_cut expansion.ExpandAfter = expansion.ExpandAfter
-expansion_cut expansion.NoExpand = expansion.NoExpand
-expansion_cut expansion.StringOf = expansion.StringOf
-expansion_cut (expansion.CsName name) = expansion.CsName name
 expansion_cut (expansion.Call c) = expansion.Call (record c { matcher = short c.matcher; is_cut = true })
-expansion_cut expansion.Equals = expansion.Equals
+expansion_cut e = e
 
 unfoldable pub cut_off : Scan → Scan
 cut_off (scan.Expansion e) = scan.Expansion (expansion_cut e)
-cut_off (scan.Number n f) = scan.Number n f
+cut_off (scan.Number n taker) = scan.Number n taker
 cut_off (scan.Text t f) = scan.Text t f
 cut_off (scan.Assign a) = scan.Assign a
 cut_off (scan.Control c) = scan.Control c

@@ -1,5 +1,5 @@
 -- What each turn makes smaller, so that turns come to an end where no step is taken: the weight of what waits in a mouth.
-use Rattle.std.specs.Prelude.{◌≡◌, ℕ, ◌+◌, ◌*◌, ◌<◌, ◌≤◌, ◌⊎◌, List, [], ◌∷◌, length}
+use Rattle.std.specs.Prelude.{◌≡◌, ℕ, ◌+◌, ◌-◌, ◌*◌, ◌<◌, ◌≤◌, ◌⊎◌, List, [], ◌∷◌, length}
 use Rattle.etx_matter.specs.declared.token.Token.{Token}
 use Rattle.etx_matter.specs.declared.deed.Deed.{Deed}
 use Rattle.etx_matter.specs.declared.deed.Deed.TheVariants as deed
@@ -37,9 +37,9 @@ say_weight = turn_weight
 abbrev pub given_weight : ℕ
 given_weight = say_weight + turn_weight
 
--- a scan can give a value, also where the token that ends it is put back
+-- a scan can give a value, also where the token that ends it is put back, and with it the seven letters of a word at most
 abbrev pub scan_weight : ℕ
-scan_weight = given_weight + turn_weight
+scan_weight = given_weight + turn_weight * 8
 
 -- each time that its programme may go on for nothing, a scan or a value can begin two scans more
 abbrev pub stage_weight : ℕ
@@ -57,6 +57,10 @@ back_weight = begun_weight + turn_weight
 abbrev pub held_weight : ℕ
 held_weight = back_weight + turn_weight
 
+-- the letters of a word: each was a token that could be put back, and the first seven were kept for nothing
+abbrev pub letters_weight : ℕ → ℕ
+letters_weight n = begun_weight * n + turn_weight * (n - 7)
+
 -- ---- what weighs
 
 -- a fresh token weighs nothing, since it is a step
@@ -64,6 +68,7 @@ abbrev pub tokens_weight : Origin → List Token → ℕ
 tokens_weight origin.Fresh ts = 0
 tokens_weight origin.Back ts = back_weight * length ts
 tokens_weight origin.Unexpanded ts = back_weight * length ts
+tokens_weight origin.Kept ts = 0
 
 abbrev pub level_weight : Level → ℕ
 level_weight (level.File f) = file_weight
@@ -82,6 +87,7 @@ entry_weight (entry.Given left v) = given_weight + stage_weight * left
 entry_weight (entry.Kept token by) = held_weight
 entry_weight (entry.Due token) = held_weight
 entry_weight (entry.Say text) = say_weight
+entry_weight (entry.Word left letters s) = scan_weight + stage_weight * left + letters_weight (length letters)
 
 abbrev pub entries_weight : List Entry → ℕ
 entries_weight [] = 0
@@ -96,13 +102,13 @@ weight m = input_weight m.input + entries_weight m.entries
 abbrev pub Falls : ℕ → Mouth → Mouth → Type 0
 Falls n old new = (old.spent < new.spent) ⊎ ((new.spent ≡ old.spent) × (weight new + n ≤ weight old))
 
--- an error is free, since a job ends at the hundredth
+-- an error is free, since a job ends at the hundredth; no turn creates a file
 abbrev pub FallsBy : Deed → Mouth → Mouth → Type 0
 FallsBy (deed.Fresh audience) old new = Falls 1 old new
 FallsBy (deed.Space audience) old new = Falls 1 old new
 FallsBy (deed.Text bytes audience) old new = Falls 1 old new
 FallsBy (deed.Error text line audience) old new = Unit {0}
-FallsBy (deed.Create name) old new = Falls 1 old new
+FallsBy (deed.Create name) old new = ⊥
 
 -- a turn ends the job or reports an error, or it takes a step or makes the weight smaller
 abbrev pub Comes : Turned → Mouth → Mouth → Type 0

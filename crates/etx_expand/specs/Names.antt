@@ -5,7 +5,7 @@ use Rattle.etx_matter.specs.declared.token.Token.TheVariants.{Char, Name, Param}
 use Rattle.etx_matter.specs.declared.end.End.TheVariants.{Capacity}
 use Rattle.etx_matter.specs.declared.end.Limit.TheVariants.{Names}
 use Rattle.etx_prims.specs.declared.command.Primitive.TheVariants as prims
-use Rattle.etx_state.specs.declared.key.Key.TheVariants as key
+use Rattle.etx_keys.specs.declared.key.Key.TheVariants as key
 use Rattle.etx_state.specs.declared.key.Val.TheVariants as val
 use Rattle.etx_state.specs.declared.key.Meaning.{Meaning}
 use Rattle.etx_state.specs.declared.key.Meaning.TheVariants as means
@@ -27,6 +27,9 @@ relaxed n means.Undefined r = with_values (assign r.values (key.Meaning n) (val.
 relaxed n (means.Primitive p) r = r
 relaxed n (means.Char code cat) r = r
 relaxed n (means.Macro m) r = r
+relaxed n (means.CharGiven code) r = r
+relaxed n (means.MathGiven code) r = r
+relaxed n (means.Register kind number) r = r
 relaxed n means.Unexpanded r = r
 relaxed n means.EndTemplate r = r
 

@@ -1,4 +1,4 @@
--- Texts in braces that are expanded ("TeX: The Program", sections 403 and 473 to 478).
+-- Texts in braces, expanded or not ("TeX: The Program", sections 403 and 473 to 478).
 use Rattle.std.specs.Prelude.{ℕ, ◌+◌, ◌-◌, Bool, ◌==◌, ◌||◌, List, [], ◌∷◌, ◌++◌, codes, if◌then◌else◌}
 use Rattle.etx_matter.specs.declared.token.Token.{Token}
 use Rattle.etx_macros.specs.declared.mark.Brace.{Brace}
@@ -18,9 +18,9 @@ use Rattle.etx_expand.specs.declared.plan.Plan.{Plan}
 use Rattle.etx_expand.specs.Answers.{quiet, fails_back}
 use Rattle.etx_expand.specs.Meanings.{has_category, is_relax}
 
--- a text that this control sequence reads, before its left brace
-abbrev pub text_for : Token → OpenText
-text_for reader = record { reader = reader; place = place.Before; items = [] }
+-- a text that this control sequence reads, expanded or not, before its left brace
+abbrev pub text_for : Token → Bool → OpenText
+text_for reader is_expanded = record { reader = reader; is_expanded = is_expanded; place = place.Before; items = [] }
 
 -- a space, or \relax
 abbrev pub is_blank : Meaning → Bool

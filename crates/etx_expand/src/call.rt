@@ -150,12 +150,8 @@ fn cut_expansion(scan: ExpansionScan) -> ExpansionScan
     ensures { result ≡ expansion_cut scan }
 {
     match scan {
-        ExpansionScan::ExpandAfter => ExpansionScan::ExpandAfter,
-        ExpansionScan::NoExpand => ExpansionScan::NoExpand,
-        ExpansionScan::StringOf => ExpansionScan::StringOf,
-        ExpansionScan::CsName(name) => ExpansionScan::CsName(name),
         ExpansionScan::Call(call) => cut_call(call),
-        ExpansionScan::Equals => ExpansionScan::Equals,
+        other => other,
     }
 }
 
@@ -166,7 +162,7 @@ pub(crate) fn cut_off(scan: Scan) -> Scan
 {
     match scan {
         Scan::Expansion(scan) => Scan::Expansion(cut_expansion(scan)),
-        Scan::Number { scan, finish } => Scan::Number { scan, finish },
+        Scan::Number { scan, taker } => Scan::Number { scan, taker },
         Scan::Text { text, finish } => Scan::Text { text, finish },
         Scan::Assign(scan) => Scan::Assign(scan),
         Scan::Control(scan) => Scan::Control(scan),

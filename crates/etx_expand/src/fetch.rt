@@ -84,7 +84,8 @@ pub fn expand_token(s: &mut State, what: Expandable, token: Token) -> Result<Tur
     ensures now { OnOk result (mouth_of s.new ≡ (expanded_turn what token (mouth_of s.old)).now) }
     ensures turned { IfOk result (λ t. t ≡ (expanded_turn what token (mouth_of s.old)).turned) }
 {
-    let start = expansion_begun(s.alloc(), what, token)?;
+    let line = s.input.line();
+    let start = expansion_begun(&mut s.rest, line, what, token)?;
     begin(s, token, start)
 }
 

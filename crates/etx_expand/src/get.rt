@@ -5,17 +5,21 @@ ghost use Rattle.etx_state.specs.Rests.{rest_of};
 ghost use Rattle.etx_state.specs.Mouths.{mouth_of};
 ghost use Rattle.etx_expand.specs.Moves.{read_next, charge_of, charged};
 ghost use Rattle.etx_expand.specs.Printing.{shown_name};
-ghost use Rattle.etx_expand.specs.Getting.{expansion_watch, assign_watch, watch_by, watch_at, watch_of, watched_from, watched, ending_of, forbidden, file_ended, admitted, token_got, name_got, lexed_got, next_got, invalid_did, got_of};
+ghost use Rattle.etx_expand.specs.Getting.{reported, condition_text, skipped, expansion_watch, assign_watch, watch_by, watch_at, watch_of, watched_from, watched, ending_of, forbidden, file_ended, admitted, token_got, name_got, lexed_got, next_got, invalid_did, got_of};
 
 use crate::meaning::{is_outer, unexpanded};
 use crate::moves::{count, put_back, read_one};
 use crate::plan::{Did, Failure};
-use crate::printing::push_name;
+use crate::printing::{push_escaped, push_name};
+use crate::showing::push_natural;
 use etx_input::{Next, Origin};
 use etx_lexer::Lexed;
 use etx_lists::Bytes;
 use etx_matter::{Boxed, End, FatalError, Limit, PAR, Token};
-use etx_state::{AssignScan, Capacity, Entries, Entry, ExpansionScan, Meaning, Rest, Scan, State};
+use etx_state::{
+    AssignScan, Capacity, Condition, Entries, Entry, ExpansionScan, Frozen, Meaning, Rest, Scan,
+    State,
+};
 use std::alloc::AllocError;
 
 /// The right brace that ends a text.
@@ -35,6 +39,8 @@ pub enum Watch {
     Absorbing(Token),
     /// In the arguments of this macro.
     Matching(Token),
+    /// In a text that isn't taken, from this line on.
+    Skipping(u32),
 }
 
 /// What is got.
@@ -58,7 +64,16 @@ fn expansion_watch(scan: &ExpansionScan) -> Option<Watch>
         ExpansionScan::StringOf => Some(Watch::Nothing),
         ExpansionScan::CsName(_) => None,
         ExpansionScan::Call(call) => Some(Watch::Matching(call.get().name)),
-        ExpansionScan::Equals => None,
+        ExpansionScan::MeaningOf => Some(Watch::Nothing),
+        ExpansionScan::Unless => None,
+        ExpansionScan::FirstCharacter { .. } => None,
+        ExpansionScan::SecondCharacter { .. } => None,
+        ExpansionScan::FirstMeaning(_) => Some(Watch::Nothing),
+        ExpansionScan::SecondMeaning { .. } => Some(Watch::Nothing),
+        ExpansionScan::Relation { .. } => None,
+        ExpansionScan::Defined(_) => Some(Watch::Nothing),
+        ExpansionScan::IfCsName { .. } => None,
+        ExpansionScan::Skip(skip) => Some(Watch::Skipping(skip.line)),
     }
 }
 
@@ -76,6 +91,9 @@ fn assign_watch(scan: &AssignScan) -> Option<Watch>
         AssignScan::FutureFirst { .. } => None,
         AssignScan::AfterGroup => None,
         AssignScan::AfterAssignment => None,
+        AssignScan::Arithmetic { .. } => None,
+        AssignScan::By { .. } => None,
+        AssignScan::List { .. } => None,
     }
 }
 
@@ -101,6 +119,7 @@ fn watch_at(entry: &Entry) -> Option<Watch>
         Entry::Kept { .. } => None,
         Entry::Due(_) => None,
         Entry::Say(_) => None,
+        Entry::Word { scan, .. } => watch_by(scan),
     }
 }
 
@@ -141,6 +160,34 @@ fn push_phrase(rest: &Rest, text: &mut Bytes, phrase: &[u8], name: Token) -> Res
     push_name(rest, text, name)
 }
 
+/// The name of a conditional.
+fn push_condition(
+    rest: &Rest,
+    text: &mut Bytes,
+    condition: Option<Condition>,
+) -> Result<(), AllocError>
+    ensures { OnOk result (text.new ≡ text.old ++ condition_text condition (rest_of rest.now)) }
+{
+    match condition {
+        None => push_escaped(rest, text, b"fi"),
+        Some(condition) => {
+            if condition.is_unless {
+                push_escaped(rest, text, b"unless")?;
+            }
+            push_escaped(rest, text, condition.kind.name())
+        }
+    }
+}
+
+/// Adds what is left out, as errors say it.
+fn push_skipped(rest: &Rest, text: &mut Bytes, line: u32) -> Result<(), AllocError>
+    ensures { OnOk result (text.new ≡ text.old ++ skipped line (rest_of rest.now)) }
+{
+    push_condition(rest, text, rest.condition())?;
+    text.extend_from_slice(b"; all text was ignored after line ")?;
+    push_natural(text, line)
+}
+
 /// Adds what is read, as errors say it.
 fn push_watched(rest: &Rest, text: &mut Bytes, watch: Watch) -> Result<(), AllocError>
     ensures { OnOk result (text.new ≡ text.old ++ watched (rest_of rest.now) watch) }
@@ -150,6 +197,7 @@ fn push_watched(rest: &Rest, text: &mut Bytes, watch: Watch) -> Result<(), Alloc
         Watch::Defining(name) => push_phrase(rest, text, b"definition of ", name),
         Watch::Absorbing(name) => push_phrase(rest, text, b"text of ", name),
         Watch::Matching(name) => push_phrase(rest, text, b"use of ", name),
+        Watch::Skipping(line) => push_skipped(rest, text, line),
     }
 }
 
@@ -163,14 +211,25 @@ fn end_scan(s: &mut State, watch: Watch) -> Result<(), AllocError>
         Watch::Defining(_) => read_one(s, RIGHT_BRACE, Origin::Fresh),
         Watch::Absorbing(_) => read_one(s, RIGHT_BRACE, Origin::Fresh),
         Watch::Matching(_) => read_one(s, Token::Name(PAR), Origin::Fresh),
+        Watch::Skipping(_) => read_one(s, Token::Name(Frozen::Fi.name()), Origin::Fresh),
+    }
+}
+
+/// How the text of an error begins that names the scan.
+fn reported(what: &[u8], watch: Watch) -> &[u8]
+    ensures { result.now ≡ reported watch what.now }
+{
+    match watch {
+        Watch::Skipping(_) => b"Incomplete ",
+        _ => what,
     }
 }
 
 /// The text of an error that names the scan.
 fn report(rest: &Rest, what: &[u8], watch: Watch) -> Result<Bytes, AllocError>
-    ensures { IfOk result (λ text. text ≡ what.now ++ watched (rest_of rest.now) watch) }
+    ensures { IfOk result (λ text. text ≡ reported watch what.now ++ watched (rest_of rest.now) watch) }
 {
-    let mut text = Bytes::from_slice(rest.alloc(), what)?;
+    let mut text = Bytes::from_slice(rest.alloc(), reported(what, watch))?;
     push_watched(rest, &mut text, watch)?;
     Ok(text)
 }
@@ -211,6 +270,7 @@ fn admit(
         Watch::Defining(_) => forbid(s, watch, token),
         Watch::Absorbing(_) => forbid(s, watch, token),
         Watch::Matching(_) => forbid(s, watch, token),
+        Watch::Skipping(_) => forbid(s, watch, token),
     }
 }
 
@@ -231,6 +291,10 @@ fn take(
         Origin::Unexpanded => Ok(Got::Token {
             token,
             meaning: unexpanded(meaning),
+        }),
+        Origin::Kept => Ok(Got::Token {
+            token,
+            meaning: Meaning::Unexpanded,
         }),
     }
 }
@@ -288,7 +352,7 @@ fn take_lexed(s: &mut State, above: Option<&Scan>, lexed: Lexed) -> Result<Got, 
 /// A scan gets what ends it, since the file ended.
 fn cut_short(s: &mut State, watch: Watch) -> Result<Got, AllocError>
     ensures now { OnOk result (mouth_of s.new ≡ read_next Origin.Fresh (ending_of watch) (mouth_of s.old)) }
-    ensures got { IfOk result (λ g. g ≡ Got.Cut (codes "File ended while scanning " ++ watched (mouth_of s.old).rest watch)) }
+    ensures got { IfOk result (λ g. g ≡ Got.Cut (reported watch (codes "File ended while scanning ") ++ watched (mouth_of s.old).rest watch)) }
 {
     let text = report(&s.rest, b"File ended while scanning ", watch)?;
     end_scan(s, watch)?;
@@ -306,6 +370,7 @@ fn end_file(s: &mut State, above: Option<&Scan>) -> Result<Got, AllocError>
         Watch::Defining(_) => cut_short(s, watch),
         Watch::Absorbing(_) => cut_short(s, watch),
         Watch::Matching(_) => cut_short(s, watch),
+        Watch::Skipping(_) => cut_short(s, watch),
     }
 }
 
@@ -317,6 +382,7 @@ fn charge(s: &mut State, origin: Origin) -> Result<(), AllocError>
         Origin::Fresh => count(s),
         Origin::Back => Ok(()),
         Origin::Unexpanded => Ok(()),
+        Origin::Kept => count(s),
     }
 }
 

@@ -15,9 +15,10 @@ ghost use Rattle.etx_state.specs.Rests.{RestState};
 ghost use Rattle.etx_state.specs.Mouths.{Mouth};
 ghost use Rattle.etx_expand.specs.declared.fetch.Idle.{Idle};
 ghost use Rattle.etx_expand.specs.declared.fetch.Fetched.TheVariants as fetched;
+ghost use Rattle.etx_expand.specs.declared.plan.WordPlan.{WordPlan};
 ghost use Rattle.etx_expand.specs.Answers.{Planned, Begun, Finished, quiet, insert_of};
 ghost use Rattle.etx_expand.specs.Calls.{call_scan, goes_on, is_over, call_row};
-ghost use Rattle.etx_expand.specs.Moves.{entered, scanning, planned_turn, begun_turn, finished_turn};
+ghost use Rattle.etx_expand.specs.Moves.{entered, scanning, planned_turn, begun_turn, finished_turn, word_turn};
 ghost use Rattle.etx_expand.specs.Measure.{back_weight, Steps, PaidFor, PaysFor, Falls, Goes};
 ghost use Rattle.etx_expand.specs.Turn.{scan_fetched, idle_turn, expand_after_turn, due_turn, say_turn};
 
@@ -29,6 +30,7 @@ pub fn each_turn_goes_on()
     ensures plan { (left : ℕ) (s : Scan) (t : Token) (p : Planned) (old m : Mouth) → Falls back_weight old m → Steps 1 old m → Goes (scanning left s old) (planned_turn left t p m) }
     ensures start { (t : Token) (b : Begun) (old m : Mouth) → Falls back_weight old m → Steps 1 old m → Goes old (begun_turn t b m) }
     ensures value { (left : ℕ) (v : Value) (f : Finished) (m : Mouth) → Goes (entered (entry.Given left v) m) (finished_turn left f m) }
+    ensures word { (left : ℕ) (letters : List Token) (s : Scan) (t : Token) (p : WordPlan) (old m : Mouth) → Falls back_weight old m → Steps 1 old m → Goes (entered (entry.Word left letters s) old) (word_turn left letters t p m) }
     ensures idle { (left : ℕ) (s : Scan) (i : Idle) (old m : Mouth) → PaidFor (fetched.Idle i) old m → Steps 1 old m → Goes (scanning left s old) (idle_turn left s i m) }
     ensures kept { (t : Token) (m : Mouth) → Goes (entered (entry.Kept t keeper.ExpandAfter) m) (expand_after_turn t m) }
     ensures due { (t : Token) (m : Mouth) → Goes (entered (entry.Due t) m) (due_turn t m) }

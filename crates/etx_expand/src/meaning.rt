@@ -1,8 +1,9 @@
 //! What expansion asks of a meaning, and which scans expand.
 ghost use Rattle.std.specs.Prelude.{◌≡◌, Some, None, MatchResult};
-ghost use Rattle.etx_expand.specs.Meanings.{expand_kind, convert_kind, primitive_expandable, expandable_of, is_outer, is_protected, has_category, is_relax, unexpanded, expansion_reading, number_reading, text_reading, body_reading, assign_reading, reading_of, keeper_reading, wanted};
+ghost use Rattle.std.specs.Option.{option_map};
+ghost use Rattle.etx_expand.specs.Meanings.{the_kind, kept_in_text, expand_kind, convert_kind, primitive_expandable, expandable_of, is_outer, is_protected, has_category, is_relax, unexpanded, expansion_reading, number_reading, text_reading, body_reading, assign_reading, reading_of, keeper_reading, wanted};
 
-use etx_prims::{ConvertKind, ExpandKind, Primitive};
+use etx_prims::{ConvertKind, ExpandKind, FiOrElseKind, IfKind, Primitive, TheKind};
 use etx_state::{
     AssignScan, ExpansionScan, Keeper, Macro, Meaning, NumberScan, ParameterMark, Scan, TextPlace,
 };
@@ -15,7 +16,20 @@ pub enum Expandable {
     ExpandAfter,
     NoExpand,
     CsName,
+    Unless,
     StringOf,
+    MeaningOf,
+    Number,
+    RomanNumeral,
+    JobName,
+    /// `\eTeXrevision`.
+    Revision,
+    /// `is_kept`: whether a list of tokens goes into the text that is read, as it is.
+    The { is_kept: bool },
+    Unexpanded { is_kept: bool },
+    Detokenize,
+    If(IfKind),
+    FiOrElse(FiOrElseKind),
     Call(Macro),
     /// It is still to come.
     Unbuilt,
@@ -39,7 +53,7 @@ fn expand_kind(kind: ExpandKind) -> Expandable
         ExpandKind::ExpandAfter => Expandable::ExpandAfter,
         ExpandKind::NoExpand => Expandable::NoExpand,
         ExpandKind::CsName => Expandable::CsName,
-        ExpandKind::Unless => Expandable::Unbuilt,
+        ExpandKind::Unless => Expandable::Unless,
     }
 }
 
@@ -48,12 +62,42 @@ fn convert_kind(kind: ConvertKind) -> Expandable
 {
     match kind {
         ConvertKind::String => Expandable::StringOf,
-        ConvertKind::Number => Expandable::Unbuilt,
-        ConvertKind::RomanNumeral => Expandable::Unbuilt,
-        ConvertKind::Meaning => Expandable::Unbuilt,
+        ConvertKind::Number => Expandable::Number,
+        ConvertKind::RomanNumeral => Expandable::RomanNumeral,
+        ConvertKind::Meaning => Expandable::MeaningOf,
         ConvertKind::FontName => Expandable::Unbuilt,
-        ConvertKind::ETeXRevision => Expandable::Unbuilt,
-        ConvertKind::JobName => Expandable::Unbuilt,
+        ConvertKind::ETeXRevision => Expandable::Revision,
+        ConvertKind::JobName => Expandable::JobName,
+    }
+}
+
+fn the_kind(kind: TheKind) -> Expandable
+    ensures { result ≡ the_kind kind }
+{
+    match kind {
+        TheKind::The => Expandable::The { is_kept: false },
+        TheKind::Unexpanded => Expandable::Unexpanded { is_kept: false },
+        TheKind::Detokenize => Expandable::Detokenize,
+    }
+}
+
+/// What it is in a text that is expanded: the tokens that come of it go into that text as they are.
+fn kept_in_text(what: Expandable) -> Expandable
+    ensures { result ≡ kept_in_text what }
+{
+    match what {
+        Expandable::The { .. } => Expandable::The { is_kept: true },
+        Expandable::Unexpanded { .. } => Expandable::Unexpanded { is_kept: true },
+        what => what,
+    }
+}
+
+fn text_expandable(meaning: Meaning) -> Result<Expandable, Meaning>
+    ensures { MatchResult result (λ what. option_map kept_in_text (expandable_of meaning) ≡ Some what) (λ m. (expandable_of meaning ≡ None) × (m ≡ meaning)) }
+{
+    match expandable_of(meaning) {
+        Ok(what) => Ok(kept_in_text(what)),
+        Err(meaning) => Err(meaning),
     }
 }
 
@@ -65,9 +109,9 @@ fn primitive_expandable(primitive: Primitive) -> Option<Expandable>
         Primitive::Expand(kind) => Some(expand_kind(kind)),
         Primitive::Convert(kind) => Some(convert_kind(kind)),
         Primitive::Input(_) => Some(Expandable::Unbuilt),
-        Primitive::Conditional(_) => Some(Expandable::Unbuilt),
-        Primitive::FiOrElse(_) => Some(Expandable::Unbuilt),
-        Primitive::The(_) => Some(Expandable::Unbuilt),
+        Primitive::Conditional(kind) => Some(Expandable::If(kind)),
+        Primitive::FiOrElse(kind) => Some(Expandable::FiOrElse(kind)),
+        Primitive::The(kind) => Some(the_kind(kind)),
         Primitive::TopBotMark(_) => Some(Expandable::Unbuilt),
         Primitive::TopBotMarks(_) => Some(Expandable::Unbuilt),
         _ => None,
@@ -94,6 +138,9 @@ pub fn expandable_of(meaning: Meaning) -> Result<Expandable, Meaning>
         Meaning::Primitive(primitive) => primitive_of(primitive),
         Meaning::Char { code, cat } => Err(Meaning::Char { code, cat }),
         Meaning::Macro(definition) => Ok(Expandable::Call(definition)),
+        Meaning::CharGiven(code) => Err(Meaning::CharGiven(code)),
+        Meaning::MathGiven(code) => Err(Meaning::MathGiven(code)),
+        Meaning::Register { kind, number } => Err(Meaning::Register { kind, number }),
         Meaning::Unexpanded => Err(Meaning::Unexpanded),
         Meaning::EndTemplate => Err(Meaning::EndTemplate),
     }
@@ -161,7 +208,16 @@ fn expansion_reading(scan: &ExpansionScan) -> Reading
         ExpansionScan::StringOf => Reading::Plain,
         ExpansionScan::CsName(_) => Reading::Expanded,
         ExpansionScan::Call(_) => Reading::Plain,
-        ExpansionScan::Equals => Reading::Expanded,
+        ExpansionScan::MeaningOf => Reading::Plain,
+        ExpansionScan::Unless => Reading::Plain,
+        ExpansionScan::FirstCharacter { .. } => Reading::Expanded,
+        ExpansionScan::SecondCharacter { .. } => Reading::Expanded,
+        ExpansionScan::FirstMeaning(_) => Reading::Plain,
+        ExpansionScan::SecondMeaning { .. } => Reading::Plain,
+        ExpansionScan::Relation { .. } => Reading::Expanded,
+        ExpansionScan::Defined(_) => Reading::Plain,
+        ExpansionScan::IfCsName { .. } => Reading::Expanded,
+        ExpansionScan::Skip(_) => Reading::Plain,
     }
 }
 
@@ -169,18 +225,34 @@ fn number_reading(scan: &NumberScan) -> Reading
     ensures { result ≡ number_reading scan.now }
 {
     match scan {
+        NumberScan::Equals(_) => Reading::Expanded,
         NumberScan::Start(_) => Reading::Expanded,
-        NumberScan::Constant => Reading::Plain,
+        NumberScan::Character(_) => Reading::Plain,
+        NumberScan::CharacterEnd { .. } => Reading::Expanded,
         NumberScan::Digits { .. } => Reading::Expanded,
+        NumberScan::Fraction { .. } => Reading::Expanded,
+        NumberScan::Unit { .. } => Reading::Expanded,
+        NumberScan::Fil { .. } => Reading::Expanded,
+        NumberScan::UnitEnd { .. } => Reading::Expanded,
+        NumberScan::Plus { .. } => Reading::Expanded,
+        NumberScan::Minus { .. } => Reading::Expanded,
+        NumberScan::Operand { .. } => Reading::Expanded,
+        NumberScan::Operator { .. } => Reading::Expanded,
     }
 }
 
-fn text_reading(place: TextPlace) -> Reading
-    ensures { result ≡ text_reading place }
+fn text_reading(is_expanded: bool, place: TextPlace) -> Reading
+    ensures { result ≡ text_reading is_expanded place }
 {
     match place {
         TextPlace::Before => Reading::Expanded,
-        TextPlace::Inside { .. } => Reading::Text,
+        TextPlace::Inside { .. } => {
+            if is_expanded {
+                Reading::Text
+            } else {
+                Reading::Plain
+            }
+        }
     }
 }
 
@@ -214,6 +286,9 @@ fn assign_reading(scan: &AssignScan) -> Reading
         AssignScan::FutureFirst { .. } => Reading::Plain,
         AssignScan::AfterGroup => Reading::Plain,
         AssignScan::AfterAssignment => Reading::Plain,
+        AssignScan::Arithmetic { .. } => Reading::Expanded,
+        AssignScan::By { .. } => Reading::Expanded,
+        AssignScan::List { .. } => Reading::Expanded,
     }
 }
 
@@ -225,7 +300,7 @@ pub(crate) fn reading_of(scan: &Scan) -> Reading
     match scan {
         Scan::Expansion(scan) => expansion_reading(scan),
         Scan::Number { scan, .. } => number_reading(scan),
-        Scan::Text { text, .. } => text_reading(text.get().place),
+        Scan::Text { text, .. } => text_reading(text.get().is_expanded, text.get().place),
         Scan::Assign(scan) => assign_reading(scan),
         Scan::Control(_) => Reading::Expanded,
     }
@@ -253,7 +328,7 @@ pub(crate) fn wanted(by: Reading, meaning: Meaning) -> Result<Expandable, Meanin
             if is_protected(&meaning) {
                 Err(meaning)
             } else {
-                expandable_of(meaning)
+                text_expandable(meaning)
             }
         }
     }

@@ -1,14 +1,17 @@
 //! The interpreter of answers. It alone reaches the input, the stack and the count of steps.
-ghost use Rattle.std.specs.Prelude.{◌≡◌, ◌+◌, ◌<◌, ◌^◌, ◌∷◌, [], OnOk, IfOk};
+ghost use Rattle.std.specs.Prelude.{◌≡◌, ◌+◌, ◌<◌, ◌^◌, ◌∷◌, [], nat_le, OnOk, IfOk};
+ghost use Rattle.etx_matter.specs.declared.deed.Audience.TheVariants.{LogAndTerminal};
+ghost use Rattle.etx_matter.specs.declared.deed.Deed.TheVariants as deed;
 ghost use Rattle.etx_state.specs.Mouths.{mouth_of};
+ghost use Rattle.etx_expand.specs.declared.plan.Turned.TheVariants as turned;
 ghost use Rattle.etx_expand.specs.Answers.{reading};
-ghost use Rattle.etx_expand.specs.Moves.{charged, put_back, read_next, entered, scanning, inserted, back_if, insert_if, failed, beside, beside_value, error_deed, turned_by, made, planned_turn, pushed, begun_turn, more, followed, finished_turn};
+ghost use Rattle.etx_expand.specs.Moves.{charged, put_back, read_next, entered, scanning, inserted, back_if, insert_if, failed, beside, beside_value, error_deed, turned_by, made, planned_turn, pushed, begun_turn, more, more_given, followed, finished_turn, letters_back, charged_if, letter_kept, word_turn};
 
-use crate::plan::{Did, Ended, Failure, Insert, Move, Plan, Push, Start, Then, Turned};
+use crate::plan::{Did, Ended, Failure, Insert, Move, Plan, Push, Start, Then, Turned, WordPlan};
 use etx_input::Origin;
 use etx_lists::Bytes;
-use etx_matter::{Audience, Boxed, Deed, SharedTokens, Token};
-use etx_state::{Entry, Scan, State};
+use etx_matter::{Audience, Boxed, Deed, SharedTokens, Token, Tokens};
+use etx_state::{Entry, Scan, State, Value};
 use std::alloc::AllocError;
 
 /// How often a programme may go on for nothing that a token began.
@@ -42,10 +45,10 @@ pub fn read_one(s: &mut State, token: Token, origin: Origin) -> Result<(), Alloc
 }
 
 /// Reads a list before all else.
-fn read_list(s: &mut State, tokens: SharedTokens) -> Result<(), AllocError>
-    ensures { OnOk result (mouth_of s.new ≡ read_next Origin.Fresh tokens (mouth_of s.old)) }
+fn read_list(s: &mut State, tokens: SharedTokens, origin: Origin) -> Result<(), AllocError>
+    ensures { OnOk result (mouth_of s.new ≡ read_next origin tokens (mouth_of s.old)) }
 {
-    s.input.push_shared(tokens, Origin::Fresh)?;
+    s.input.push_shared(tokens, origin)?;
     Ok(())
 }
 
@@ -71,7 +74,8 @@ fn insert(s: &mut State, what: Insert) -> Result<(), AllocError>
     match what {
         Insert::Nothing => Ok(()),
         Insert::Token(token) => read_one(s, token, Origin::Fresh),
-        Insert::Text(tokens) => read_list(s, tokens),
+        Insert::Text(tokens) => read_list(s, tokens, Origin::Fresh),
+        Insert::Kept(tokens) => read_list(s, tokens, Origin::Kept),
     }
 }
 
@@ -101,6 +105,13 @@ pub fn error_deed(s: &State, text: Bytes) -> Result<Turned, AllocError>
         audience: Audience::LogAndTerminal,
     };
     Ok(Turned::Deed(Boxed::new(s.alloc(), deed)?))
+}
+
+/// A space is said, unless a line begins there.
+fn space_deed(s: &State) -> Result<Turned, AllocError>
+    ensures { IfOk result (λ t. t ≡ turned.Deed (deed.Space LogAndTerminal)) }
+{
+    Ok(Turned::Deed(Boxed::new(s.alloc(), Deed::Space(Audience::LogAndTerminal))?))
 }
 
 /// An error is reported about a token, which is read again if it says so.
@@ -142,7 +153,7 @@ fn do_beside(s: &mut State, token: Token, did: Did) -> Result<Turned, AllocError
 {
     match did {
         Did::Nothing => Ok(Turned::Again),
-        Did::Deed(deed) => Ok(Turned::Deed(deed)),
+        Did::Space => space_deed(s),
         Did::Error(failure) => fail(s, token, failure.into_inner()),
         Did::End(end) => Ok(Turned::End(end)),
     }
@@ -156,7 +167,7 @@ fn do_beside_value(s: &mut State, did: Did) -> Result<Turned, AllocError>
 {
     match did {
         Did::Nothing => Ok(Turned::Again),
-        Did::Deed(deed) => Ok(Turned::Deed(deed)),
+        Did::Space => space_deed(s),
         Did::Error(failure) => fail_value(s, failure.into_inner()),
         Did::End(end) => Ok(Turned::End(end)),
     }
@@ -169,7 +180,7 @@ pub fn do_alone(s: &State, did: Did) -> Result<Turned, AllocError>
 {
     match did {
         Did::Nothing => Ok(Turned::Again),
-        Did::Deed(deed) => Ok(Turned::Deed(deed)),
+        Did::Space => space_deed(s),
         Did::Error(failure) => {
             let Failure {
                 text,
@@ -203,6 +214,23 @@ fn give_back(s: &mut State, token: Token, entry: Entry) -> Result<(), AllocError
     enter(s, entry)
 }
 
+/// The first letter of a word is kept.
+fn keep_first(s: &mut State, left: u8, token: Token, scan: Scan) -> Result<(), AllocError>
+    ensures { OnOk result (mouth_of s.new ≡ entered (Entry.Word left (token ∷ []) scan) (mouth_of s.old)) }
+{
+    let mut letters = Tokens::new(s.alloc());
+    letters.push(token)?;
+    let letters = Boxed::new(s.alloc(), letters)?;
+    enter(
+        s,
+        Entry::Word {
+            left,
+            letters,
+            scan,
+        },
+    )
+}
+
 /// What becomes of a scan and its token.
 #[tactic(auto, unfolding(crate::specs::Moves::made))]
 fn go(s: &mut State, left: u8, token: Token, go: Move) -> Result<(), AllocError>
@@ -219,6 +247,7 @@ fn go(s: &mut State, left: u8, token: Token, go: Move) -> Result<(), AllocError>
         Move::GivesBack(value) => give_back(s, token, Entry::Given { left, value }),
         Move::Hold(by) => enter(s, Entry::Kept { token, by }),
         Move::Unexpanded => read_one(s, token, Origin::Unexpanded),
+        Move::Letter(scan) => keep_first(s, left, token, scan),
     }
 }
 
@@ -260,6 +289,23 @@ fn go_on(s: &mut State, left: u8, scan: Scan) -> Result<(), AllocError>
     enter_scan(s, left - 1, scan)
 }
 
+/// A programme goes on with a value.
+fn give_on(s: &mut State, left: u8, value: Value) -> Result<(), AllocError>
+    ensures { OnOk result (mouth_of s.new ≡ more_given left value (mouth_of s.old)) }
+{
+    if left == 0 {
+        count(s)?;
+        return enter(s, Entry::Given { left: 0, value });
+    }
+    enter(
+        s,
+        Entry::Given {
+            left: left - 1,
+            value,
+        },
+    )
+}
+
 fn go_on_behind(s: &mut State, left: u8, first: Scan, scan: Scan) -> Result<(), AllocError>
     ensures { OnOk result (mouth_of s.new ≡ scanning 0 first (more left scan (mouth_of s.old))) }
 {
@@ -276,6 +322,7 @@ fn follow_with(s: &mut State, left: u8, then: Then) -> Result<(), AllocError>
         Then::More(scan) => go_on(s, left, scan),
         Then::MoreBehind(first, scan) => go_on_behind(s, left, first, scan),
         Then::Say(text) => enter(s, Entry::Say(text)),
+        Then::Gives(value) => give_on(s, left, value),
     }
 }
 
@@ -287,4 +334,89 @@ pub fn follow(s: &mut State, left: u8, ended: Ended) -> Result<Turned, AllocErro
 {
     follow_with(s, left, ended.then)?;
     do_beside_value(s, ended.did)
+}
+
+/// The letters of a word are read again, the first before the others. After an `Err` the state is only dropped.
+#[tactic(auto, unfolding(crate::specs::Moves::letters_back), using(crate::proofs::Letters::last_back))]
+fn put_letters_back(s: &mut State, mut letters: Tokens) -> Result<(), AllocError>
+    ensures now { OnOk result (mouth_of s.new ≡ letters_back letters (mouth_of s.old)) }
+    ensures rest { OnOk result ((mouth_of s.new).rest ≡ (mouth_of s.old).rest) }
+{
+    'letters: while let Some(token) = letters.pop() {
+        put_back(s, token)?;
+    }
+    Ok(())
+}
+
+/// How many letters of a word are kept for nothing. (No word is so long.)
+const MOST_LETTERS: usize = 7;
+
+/// A letter more than so many is a step, where these are enough.
+fn count_letter(s: &mut State, kept: usize) -> Result<(), AllocError>
+    ensures { OnOk result (mouth_of s.new ≡ charged_if (nat_le 7 kept) (mouth_of s.old)) }
+{
+    if kept >= MOST_LETTERS {
+        count(s)
+    } else {
+        Ok(())
+    }
+}
+
+/// A letter more is kept.
+fn keep_letter(
+    s: &mut State,
+    left: u8,
+    mut letters: Boxed<Tokens>,
+    token: Token,
+    scan: Scan,
+) -> Result<Turned, AllocError>
+    ensures now { OnOk result (mouth_of s.new ≡ letter_kept left letters token scan (mouth_of s.old)) }
+    ensures turned { IfOk result (λ t. t ≡ Turned.Again) }
+{
+    count_letter(s, letters.get().len())?;
+    letters.get_mut().push(token)?;
+    enter(
+        s,
+        Entry::Word {
+            left,
+            letters,
+            scan,
+        },
+    )?;
+    Ok(Turned::Again)
+}
+
+/// The letters of a word and the token behind them are read again, and then its programme goes on so.
+fn lose(
+    s: &mut State,
+    left: u8,
+    letters: Tokens,
+    token: Token,
+    ended: Ended,
+) -> Result<Turned, AllocError>
+    ensures now { OnOk result (mouth_of s.new ≡ (finished_turn left (record { rest = (mouth_of s.old).rest; ended = ended }) (letters_back letters (put_back token (mouth_of s.old)))).now) }
+    ensures turned { IfOk result (λ t. t ≡ (finished_turn left (record { rest = (mouth_of s.old).rest; ended = ended }) (letters_back letters (put_back token (mouth_of s.old)))).turned) }
+{
+    put_back(s, token)?;
+    put_letters_back(s, letters)?;
+    follow(s, left, ended)
+}
+
+/// Carries out what becomes of a word that is read. After an `Err` the state is only dropped.
+#[tactic(auto, unfolding(crate::specs::Moves::word_turn))]
+pub fn make_word(
+    s: &mut State,
+    left: u8,
+    letters: Boxed<Tokens>,
+    token: Token,
+    plan: WordPlan,
+) -> Result<Turned, AllocError>
+    ensures now { OnOk result (mouth_of s.new ≡ (word_turn left letters token plan (mouth_of s.old)).now) }
+    ensures turned { IfOk result (λ t. t ≡ (word_turn left letters token plan (mouth_of s.old)).turned) }
+{
+    match plan {
+        WordPlan::Letter(scan) => keep_letter(s, left, letters, token, scan),
+        WordPlan::Found(plan) => make(s, left, token, plan),
+        WordPlan::Lost(ended) => lose(s, left, letters.into_inner(), token, ended),
+    }
 }

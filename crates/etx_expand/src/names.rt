@@ -29,6 +29,9 @@ fn relax(rest: &mut Rest, number: NameId) -> Result<(), AllocError>
         Meaning::Primitive(_) => Ok(()),
         Meaning::Char { .. } => Ok(()),
         Meaning::Macro(_) => Ok(()),
+        Meaning::CharGiven(_) => Ok(()),
+        Meaning::MathGiven(_) => Ok(()),
+        Meaning::Register { .. } => Ok(()),
         Meaning::Unexpanded => Ok(()),
         Meaning::EndTemplate => Ok(()),
     }

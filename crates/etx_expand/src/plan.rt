@@ -16,6 +16,8 @@ pub enum Insert {
     Token(Token),
     /// These tokens, as fresh ones.
     Text(SharedTokens),
+    /// These tokens, which go into a text as they are.
+    Kept(SharedTokens),
 }
 
 /// An error, and what is read after it. The token that a row was given may be read again, and a fresh one before it.
@@ -31,8 +33,8 @@ pub struct Failure {
 #[derive(Drop)]
 pub enum Did {
     Nothing,
-    /// This is done to the outside.
-    Deed(Boxed<Deed>),
+    /// A space is said, unless a line begins there.
+    Space,
     /// An error is reported.
     Error(Boxed<Failure>),
     /// The job ends.
@@ -62,6 +64,19 @@ pub enum Move {
     Hold(Keeper),
     /// The token is read again, and isn't expanded then.
     Unexpanded,
+    /// The token is the first letter of a word that the scan reads, and is kept.
+    Letter(Scan),
+}
+
+/// What becomes of a scan that reads a word, and of the token that it got.
+#[derive(Drop)]
+pub enum WordPlan {
+    /// The token is a letter more, and is kept.
+    Letter(Scan),
+    /// The token ends the word; its letters are used up.
+    Found(Plan),
+    /// The letters aren't that word: they and the token are read again.
+    Lost(Ended),
 }
 
 /// What a scan's row decides.
@@ -95,6 +110,8 @@ pub enum Then {
     MoreBehind(Scan, Scan),
     /// This text is said next.
     Say(Bytes),
+    /// The programme goes on with this value.
+    Gives(Value),
 }
 
 /// What a finisher's row decides.

@@ -1,12 +1,13 @@
 //! How characters, names and tokens are printed.
 ghost use Rattle.std.specs.Prelude.{◌≡◌, ◌<◌, ◌++◌, [], ◌∷◌, ◌==◌, if◌then◌else◌, MatchOption, OnOk, IfOk};
+ghost use Rattle.etx_state.specs.Frozen.{frozen_of};
 ghost use Rattle.etx_state.specs.Rests.{rest_of};
-ghost use Rattle.etx_expand.specs.Printing.{hex_digit, shown_character, character_in, printed_character, printed, escape_in, name_text, escaped, parameter_text, spelled, space_behind, token_text, tokens_text, said_text, shown_name, character_token, character_tokens};
+ghost use Rattle.etx_expand.specs.Printing.{hex_digit, shown_character, character_in, printed_character, printed, escape_in, frozen_or_inaccessible, name_text, escaped, parameter_text, spelled, space_behind, token_text, tokens_text, said_text, shown_name, character_token, character_tokens};
 
 use etx_lists::Bytes;
 use etx_matter::{NameId, Token, Tokens};
 use etx_prims::IntParam;
-use etx_state::Rest;
+use etx_state::{Frozen, Rest};
 use std::alloc::{AllocError, Global};
 
 fn hex_digit(number: u8) -> u8
@@ -78,7 +79,7 @@ pub fn push_printed(rest: &Rest, bytes: &mut Bytes, text: &[u8]) -> Result<(), A
 }
 
 /// The escape character, if there is one.
-fn push_escape(rest: &Rest, bytes: &mut Bytes) -> Result<(), AllocError>
+pub(crate) fn push_escape(rest: &Rest, bytes: &mut Bytes) -> Result<(), AllocError>
     ensures { OnOk result (bytes.new ≡ bytes.old ++ escape_in (rest_of rest.now).values) }
 {
     match character_of(rest.int(IntParam::EscapeChar)) {
@@ -91,7 +92,7 @@ fn push_escape(rest: &Rest, bytes: &mut Bytes) -> Result<(), AllocError>
 }
 
 /// The escape character and a word.
-fn push_word(rest: &Rest, bytes: &mut Bytes, word: &[u8]) -> Result<(), AllocError>
+pub(crate) fn push_word(rest: &Rest, bytes: &mut Bytes, word: &[u8]) -> Result<(), AllocError>
     ensures { OnOk result (bytes.new ≡ bytes.old ++ (escape_in (rest_of rest.now).values ++ word.now)) }
 {
     push_escape(rest, bytes)?;
@@ -121,22 +122,32 @@ fn push_name_text(rest: &Rest, bytes: &mut Bytes, name: &[u8]) -> Result<(), All
     }
 }
 
+/// The text of a control sequence that no text names.
+fn text_of_frozen(name: NameId) -> &'static [u8]
+    ensures { result.now ≡ frozen_or_inaccessible (frozen_of name.0) }
+{
+    match Frozen::of(name) {
+        Some(it) => it.text(),
+        None => b"inaccessible",
+    }
+}
+
 /// The text of a name. A name that no text names has the text of its kind.
 fn text_of(rest: &Rest, name: NameId) -> &[u8]
     ensures { result.now ≡ name_text (rest_of rest.now).names name.0 }
 {
     match rest.name_text(name) {
         Some(text) => text,
-        None => b"inaccessible",
+        None => text_of_frozen(name),
     }
 }
 
 /// A parameter; a number that no parameter has is shown by an exclamation mark.
-fn push_parameter(bytes: &mut Bytes, number: u8) -> Result<(), AllocError>
-    ensures { OnOk result (bytes.new ≡ bytes.old ++ parameter_text number) }
+fn push_parameter(bytes: &mut Bytes, mark: u8, number: u8) -> Result<(), AllocError>
+    ensures { OnOk result (bytes.new ≡ bytes.old ++ parameter_text mark number) }
 {
     let digit = if number < 10 { 48 + number } else { 33 };
-    bytes.extend_from_slice(&[35, digit])?;
+    bytes.extend_from_slice(&[mark, digit])?;
     Ok(())
 }
 
@@ -151,7 +162,7 @@ pub(crate) fn spell(rest: &Rest, bytes: &mut Bytes, token: Token) -> Result<(), 
             Ok(())
         }
         Token::Name(name) => push_name_text(rest, bytes, text_of(rest, name)),
-        Token::Param(number) => push_parameter(bytes, number),
+        Token::Param(number) => push_parameter(bytes, 35, number),
     }
 }
 
@@ -186,25 +197,30 @@ fn push_name_in_text(rest: &Rest, bytes: &mut Bytes, name: &[u8]) -> Result<(), 
     push_space(rest, bytes, name)
 }
 
-/// A token in a text.
+/// A token in a text, where parameters are shown by this mark.
 #[tactic(auto, unfolding(crate::specs::Printing::token_text))]
-fn push_token(rest: &Rest, bytes: &mut Bytes, token: Token) -> Result<(), AllocError>
-    ensures { OnOk result (bytes.new ≡ bytes.old ++ token_text (rest_of rest.now) token) }
+pub(crate) fn push_token(
+    rest: &Rest,
+    bytes: &mut Bytes,
+    mark: u8,
+    token: Token,
+) -> Result<(), AllocError>
+    ensures { OnOk result (bytes.new ≡ bytes.old ++ token_text (rest_of rest.now) mark token) }
 {
     match token {
         Token::Char { code, cat } => push_character(bytes, code, cat),
         Token::Name(name) => push_name_in_text(rest, bytes, text_of(rest, name)),
-        Token::Param(number) => push_parameter(bytes, number),
+        Token::Param(number) => push_parameter(bytes, mark, number),
     }
 }
 
 /// The characters of a text.
-fn text_of_tokens(rest: &Rest, tokens: &[Token]) -> Result<Bytes, AllocError>
+pub fn text_of_tokens(rest: &Rest, tokens: &[Token]) -> Result<Bytes, AllocError>
     ensures { IfOk result (λ it. it ≡ tokens_text (rest_of rest.now) tokens.now) }
 {
     let mut bytes = Bytes::new(rest.alloc());
     for token in tokens {
-        push_token(rest, &mut bytes, *token)?;
+        push_token(rest, &mut bytes, 35, *token)?;
     }
     Ok(bytes)
 }

@@ -1,4 +1,4 @@
-//! Texts in braces that are expanded.
+//! Texts in braces.
 ghost use Rattle.std.specs.Prelude.{◌≡◌, ◌++◌, ◌∷◌, [], OnOk, IfOk};
 ghost use Rattle.etx_macros.specs.Marks.{brace_of};
 ghost use Rattle.etx_expand.specs.Answers.{quiet};
@@ -12,12 +12,13 @@ use etx_matter::{Boxed, Token, Tokens};
 use etx_state::{Meaning, OpenText, Scan, TextFinish, TextPlace, Value};
 use std::alloc::{AllocError, Global};
 
-/// A text that this control sequence reads, before its left brace.
-pub fn text_for(alloc: Global, reader: Token) -> OpenText
-    ensures { result ≡ text_for reader }
+/// A text that this control sequence reads, expanded or not, before its left brace.
+pub fn text_for(alloc: Global, reader: Token, is_expanded: bool) -> OpenText
+    ensures { result ≡ text_for reader is_expanded }
 {
     OpenText {
         reader,
+        is_expanded,
         place: TextPlace::Before,
         items: Tokens::new(alloc),
     }

@@ -3,22 +3,31 @@ ghost use Rattle.std.specs.Prelude.{◌≡◌, OnOk, IfOk};
 ghost use Rattle.etx_state.specs.Rests.{Keeps, rest_of};
 ghost use Rattle.etx_state.specs.Mouths.{mouth_of};
 ghost use Rattle.etx_expand.specs.Moves.{entered, put_back, turned_by, error_deed};
-ghost use Rattle.etx_expand.specs.Turn.{expansion_row, expansion_token, number_token, text_token, expanded_turn, kept_idle, kept_with, expand_after_turn, due_turn, say_turn};
+ghost use Rattle.etx_expand.specs.Turn.{expansion_row, expansion_token, number_token, text_token, number_word_turn, outer_turn, expansion_number_turn, expansion_text_turn, expanded_turn, kept_idle, kept_with, expand_after_turn, due_turn, say_turn};
 
 use crate::answers::quiet;
 use crate::call::call_row;
+use crate::conditionals::{
+    defined_row, first_character_row, first_meaning_row, if_cs_name_row, relation_row,
+    second_character_row, second_meaning_row, unless_row,
+};
+use crate::converting::{meaning_row, number_given, text_given};
+use crate::dimensions::number_word_row;
+use crate::expressions::outer_row;
 use crate::fetch::{Fetched, Idle, expand_token, fetch_behind};
 use crate::meaning::Expandable;
-use crate::moves::{do_alone, enter, error_deed, make, put_back};
+use crate::moves::{do_alone, enter, error_deed, follow, make, make_word, put_back};
 use crate::names::{cs_name_row, string_row};
-use crate::numbers::{equals_row, number_row};
+use crate::numbers::number_row;
 use crate::plan::{Move, Plan, Turned};
+use crate::skips::skip_row;
 use crate::texts::text_row;
+use etx_exprs::Value as Quantity;
 use etx_lists::Bytes;
-use etx_matter::{Audience, Boxed, Deed, Token};
+use etx_matter::{Audience, Boxed, Deed, GlueOrder, Token, Tokens};
 use etx_state::{
-    Entry, ExpansionScan, Keeper, Meaning, NumberFinish, NumberScan, OpenText, Rest, State,
-    TextFinish,
+    Entry, ExpansionNumber, ExpansionScan, ExpansionText, Keeper, Meaning, NumberScan, OpenText,
+    Outer, Rest, State, Taker, TextFinish,
 };
 use std::alloc::AllocError;
 
@@ -26,12 +35,13 @@ use std::alloc::AllocError;
 #[tactic(auto, unfolding(crate::specs::Turn::expansion_row))]
 fn expansion_row(
     rest: &mut Rest,
+    line: u32,
     scan: ExpansionScan,
     token: Token,
     meaning: &Meaning,
 ) -> Result<Plan, AllocError>
-    ensures rest { OnOk result (rest_of rest.new ≡ (expansion_row scan token meaning.now (rest_of rest.old)).rest) }
-    ensures plan { IfOk result (λ p. p ≡ (expansion_row scan token meaning.now (rest_of rest.old)).plan) }
+    ensures rest { OnOk result (rest_of rest.new ≡ (expansion_row scan token meaning.now line (rest_of rest.old)).rest) }
+    ensures plan { IfOk result (λ p. p ≡ (expansion_row scan token meaning.now line (rest_of rest.old)).plan) }
     ensures kept { Keeps rest.old rest.new }
 {
     match scan {
@@ -40,7 +50,30 @@ fn expansion_row(
         ExpansionScan::StringOf => Ok(quiet(string_row(rest, token)?)),
         ExpansionScan::CsName(name) => cs_name_row(rest, name, token, meaning),
         ExpansionScan::Call(call) => call_row(rest, call, token),
-        ExpansionScan::Equals => Ok(equals_row(token)),
+        ExpansionScan::MeaningOf => meaning_row(rest, meaning),
+        ExpansionScan::Unless => unless_row(rest, line, token, meaning),
+        ExpansionScan::FirstCharacter { test, is_cat } => {
+            Ok(first_character_row(test, is_cat, token, meaning))
+        }
+        ExpansionScan::SecondCharacter {
+            test,
+            is_cat,
+            first,
+        } => second_character_row(rest, line, test, is_cat, first, token, meaning),
+        ExpansionScan::FirstMeaning(test) => first_meaning_row(rest.alloc(), test, meaning),
+        ExpansionScan::SecondMeaning { test, first } => {
+            second_meaning_row(rest, line, test, first.get(), meaning)
+        }
+        ExpansionScan::Relation {
+            test,
+            is_dimension,
+            first,
+        } => relation_row(rest, test, is_dimension, first, token, meaning),
+        ExpansionScan::Defined(test) => defined_row(rest, line, test, meaning),
+        ExpansionScan::IfCsName { test, name } => {
+            if_cs_name_row(rest, line, test, name, token, meaning)
+        }
+        ExpansionScan::Skip(skip) => skip_row(rest, line, skip, meaning),
     }
 }
 
@@ -55,7 +88,8 @@ pub fn take_expansion(
     ensures now { OnOk result (mouth_of s.new ≡ (expansion_token left scan token meaning.now (mouth_of s.old)).now) }
     ensures turned { IfOk result (λ t. t ≡ (expansion_token left scan token meaning.now (mouth_of s.old)).turned) }
 {
-    let plan = expansion_row(&mut s.rest, scan, token, meaning)?;
+    let line = s.input.line();
+    let plan = expansion_row(&mut s.rest, line, scan, token, meaning)?;
     make(s, left, token, plan)
 }
 
@@ -64,14 +98,15 @@ pub fn take_number(
     s: &mut State,
     left: u8,
     scan: NumberScan,
-    finish: NumberFinish,
+    taker: Boxed<Taker>,
     token: Token,
     meaning: &Meaning,
 ) -> Result<Turned, AllocError>
-    ensures now { OnOk result (mouth_of s.new ≡ (number_token left scan finish token meaning.now (mouth_of s.old)).now) }
-    ensures turned { IfOk result (λ t. t ≡ (number_token left scan finish token meaning.now (mouth_of s.old)).turned) }
+    ensures now { OnOk result (mouth_of s.new ≡ (number_token left scan taker token meaning.now (mouth_of s.old)).now) }
+    ensures turned { IfOk result (λ t. t ≡ (number_token left scan taker token meaning.now (mouth_of s.old)).turned) }
 {
-    let plan = number_row(&s.rest, scan, finish, token, meaning);
+    let line = s.input.line();
+    let plan = number_row(&s.rest, line, scan, taker, token, meaning)?;
     make(s, left, token, plan)
 }
 
@@ -178,4 +213,65 @@ pub fn turn_say(s: &mut State, text: Bytes) -> Result<Turned, AllocError>
         audience: Audience::LogAndTerminal,
     };
     Ok(Turned::Deed(Boxed::new(s.alloc(), deed)?))
+}
+
+/// A number that was read for an outer scan. After an `Err` the state is only dropped.
+pub fn turn_outer(
+    s: &mut State,
+    left: u8,
+    outer: Outer,
+    taker: Boxed<Taker>,
+    amount: Quantity,
+    order: GlueOrder,
+) -> Result<Turned, AllocError>
+    ensures now { OnOk result (mouth_of s.new ≡ (outer_turn left outer taker amount order (mouth_of s.old)).now) }
+    ensures turned { IfOk result (λ t. t ≡ (outer_turn left outer taker amount order (mouth_of s.old)).turned) }
+{
+    let ended = outer_row(&s.rest, outer, taker, amount, order)?;
+    follow(s, left, ended)
+}
+
+/// Expansion takes a number. After an `Err` the state is only dropped.
+pub fn turn_number(
+    s: &mut State,
+    left: u8,
+    finish: ExpansionNumber,
+    amount: Quantity,
+) -> Result<Turned, AllocError>
+    ensures now { OnOk result (mouth_of s.new ≡ (expansion_number_turn left finish amount (mouth_of s.old)).now) }
+    ensures turned { IfOk result (λ t. t ≡ (expansion_number_turn left finish amount (mouth_of s.old)).turned) }
+{
+    let line = s.input.line();
+    let ended = number_given(&mut s.rest, line, finish, amount)?;
+    follow(s, left, ended)
+}
+
+/// Expansion takes a text. After an `Err` the state is only dropped.
+pub fn turn_text(
+    s: &mut State,
+    left: u8,
+    finish: ExpansionText,
+    text: Boxed<Tokens>,
+) -> Result<Turned, AllocError>
+    ensures now { OnOk result (mouth_of s.new ≡ (expansion_text_turn left finish text (mouth_of s.old)).now) }
+    ensures turned { IfOk result (λ t. t ≡ (expansion_text_turn left finish text (mouth_of s.old)).turned) }
+{
+    let ended = text_given(&s.rest, finish, text)?;
+    follow(s, left, ended)
+}
+
+/// A number that reads a word gets a token. After an `Err` the state is only dropped.
+pub fn take_number_word(
+    s: &mut State,
+    left: u8,
+    scan: NumberScan,
+    taker: Boxed<Taker>,
+    letters: Boxed<Tokens>,
+    token: Token,
+) -> Result<Turned, AllocError>
+    ensures now { OnOk result (mouth_of s.new ≡ (number_word_turn left scan taker letters token (mouth_of s.old)).now) }
+    ensures turned { IfOk result (λ t. t ≡ (number_word_turn left scan taker letters token (mouth_of s.old)).turned) }
+{
+    let plan = number_word_row(&mut s.rest, scan, taker, letters.get().as_slice(), token)?;
+    make_word(s, left, letters, token, plan)
 }

@@ -64,6 +64,13 @@ impl Expr {
         self.level.wanted()
     }
 
+    /// The kind of the innermost parenthesis that is open, or else of the whole.
+    pub fn kind(&self) -> ValueKind
+        ensures { result ≡ self.now.level.kind }
+    {
+        self.level.kind
+    }
+
     /// How many parentheses are open.
     pub fn depth(&self) -> usize
         ensures value { result ≡ length self.now.outer }

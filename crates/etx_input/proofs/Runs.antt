@@ -7,7 +7,7 @@ use Rattle.etx_input.specs.declared.level.Level.{Level}
 use Rattle.etx_input.specs.declared.level.Level.TheVariants as level
 use Rattle.etx_input.specs.declared.levels.Next.TheVariants as gives
 use Rattle.etx_input.specs.declared.origin.Origin.{Origin}
-use Rattle.etx_input.specs.declared.origin.Origin.TheVariants.{Fresh, Back, Unexpanded}
+use Rattle.etx_input.specs.declared.origin.Origin.TheVariants.{Fresh, Back, Unexpanded, Kept}
 use Rattle.etx_input.specs.Levels.{InputState, Given, reading, list_level, list_given, given_in, given_of}
 use Rattle.etx_input.specs.Lists.{fresh_of}
 use Rattle.etx_input.specs.Runs.{fresh_at, fresh_in, list_unless_over, levels_skipped, skipped}
@@ -21,6 +21,7 @@ list_first (t ∷ []) Fresh ls left more token tokens is = let same : t ≡ toke
 list_first (t ∷ u ∷ ts) Fresh ls left more token tokens is = let same : t ≡ token = cc in ap (λ (v : Token). listed v (reading (list_level (u ∷ ts) Fresh ∷ ls) left)) same
 list_first rest Back ls left more token tokens is = absurd (let no : [] ≡ token ∷ tokens = is in cc)
 list_first rest Unexpanded ls left more token tokens is = absurd (let no : [] ≡ token ∷ tokens = is in cc)
+list_first rest Kept ls left more token tokens is = absurd (let no : [] ≡ token ∷ tokens = is in cc)
 
 first_in : (cats : ℕ → ℕ) (endline : ℤ) (ls : List Level) (left : ℕ) (token : Token) (tokens : List Token) → fresh_in ls ≡ token ∷ tokens → given_in cats endline ls left ≡ listed token (reading (levels_skipped 1 ls) left)
 first_in cats endline [] left token tokens is = absurd (let no : [] ≡ token ∷ tokens = is in cc)
@@ -48,13 +49,16 @@ some_left : (n : ℕ) (origin : Origin) (ts : List Token) → n < length (fresh_
 some_left n Fresh ts less = let long = length-drop n ts in omega arith
 some_left n Back ts less = absurd (omega (arith, less))
 some_left n Unexpanded ts less = absurd (omega (arith, less))
+some_left n Kept ts less = absurd (omega (arith, less))
 
 dropped : (n : ℕ) (origin : Origin) (ts : List Token) → fresh_of origin (drop n ts) ≡ drop n (fresh_of origin ts)
 dropped n Fresh ts = refl
 dropped zero Back ts = refl
 dropped (suc n) Back ts = refl
 dropped zero Unexpanded ts = refl
+dropped zero Kept ts = refl
 dropped (suc n) Unexpanded ts = refl
+dropped (suc n) Kept ts = refl
 
 more_in : (n : ℕ) (ls : List Level) → n < length (fresh_in ls) → levels_skipped (n + 1) ls ≡ levels_skipped 1 (levels_skipped n ls)
 more_in n [] less = absurd (omega (arith, less))

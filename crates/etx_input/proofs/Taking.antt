@@ -5,7 +5,7 @@ use Rattle.std.proofs.lemmas.List.{drop-drop}
 use Rattle.std.proofs.Common.{◌≡◌, ◌+◌, ◌-◌, ◌≤◌, ◌<◌, ℕ, zero, suc, nat_le, length, drop, arith, List, [], ◌∷◌, refl, ap, sym, ◌∙◌}
 use Rattle.etx_matter.specs.declared.token.Token.{Token}
 use Rattle.etx_input.specs.declared.origin.Origin.{Origin}
-use Rattle.etx_input.specs.declared.origin.Origin.TheVariants.{Fresh, Back, Unexpanded}
+use Rattle.etx_input.specs.declared.origin.Origin.TheVariants.{Fresh, Back, Unexpanded, Kept}
 use Rattle.etx_input.specs.Lists.{is_empty, fresh_of}
 
 -- all tokens were taken just where none is left
@@ -35,3 +35,4 @@ pub fresh_fits : (origin : Origin) (ts : List Token) (count : ℕ) → count ≤
 fresh_fits Fresh ts count le = le
 fresh_fits Back ts count le = omega arith
 fresh_fits Unexpanded ts count le = omega arith
+fresh_fits Kept ts count le = omega arith

@@ -2,7 +2,7 @@
 use Rattle.std.specs.Prelude.{Bool, true, false, List, [], ◌∷◌}
 use Rattle.etx_matter.specs.declared.token.Token.{Token}
 use Rattle.etx_input.specs.declared.origin.Origin.{Origin}
-use Rattle.etx_input.specs.declared.origin.Origin.TheVariants.{Fresh, Back, Unexpanded}
+use Rattle.etx_input.specs.declared.origin.Origin.TheVariants.{Fresh, Back, Unexpanded, Kept}
 
 -- the tokens that were not taken yet
 pub record ListState : Type 0 where
@@ -18,3 +18,4 @@ abbrev pub fresh_of : Origin → List Token → List Token
 fresh_of Fresh tokens = tokens
 fresh_of Back tokens = []
 fresh_of Unexpanded tokens = []
+fresh_of Kept tokens = []

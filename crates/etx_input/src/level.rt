@@ -172,6 +172,7 @@ impl ListInput {
             Origin::Fresh => self.waiting.tokens(),
             Origin::Back => &[],
             Origin::Unexpanded => &[],
+            Origin::Kept => &[],
         }
     }
 

@@ -8,4 +8,6 @@ pub enum Origin {
     Back,
     /// It was put back by `\noexpand`: this time it isn't expanded.
     Unexpanded,
+    /// It comes of `\the` or `\unexpanded` in a text that is expanded, and goes into that text as it is. It counts as a step.
+    Kept,
 }

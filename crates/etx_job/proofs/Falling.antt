@@ -12,6 +12,7 @@ use Rattle.etx_expand.specs.Measure.{Falls as MachineFalls, Comes}
 use Rattle.etx_job.specs.declared.mouth.Source.{Source}
 use Rattle.etx_job.specs.declared.mouth.Source.TheVariants.{Unasked, Absent, Refused, Reading}
 use Rattle.etx_job.specs.declared.yields.Yield.{Yield}
+use Rattle.etx_job.specs.declared.yields.Yield.TheVariants.{Act}
 use Rattle.etx_job.specs.Mouths.{MouthState, mouth_at}
 use Rattle.etx_job.specs.Machine.{machine_turn}
 use Rattle.etx_job.specs.Turn.{turned, yield_of, source_turn, turn_of, answered, resumed}
@@ -28,7 +29,7 @@ deed_goes (deed.Fresh who) old new later comes = inr (inr (falls 1 old new comes
 deed_goes (deed.Space who) old new later comes = inr (inr (falls 1 old new comes))
 deed_goes (deed.Text bytes who) old new later comes = inr (inr (falls 1 old new comes))
 deed_goes (deed.Error text line who) old new later comes = inr (inl (refl, later))
-deed_goes (deed.Create name) old new later comes = inr (inr (falls 1 old new comes))
+deed_goes (deed.Create name) old new later comes = absurd comes
 
 reading_goes : (t : Came) (old new : Mouth) → old.spent ≤ new.spent → Comes t old new → Goes (mouth_at Reading old) (turned (mouth_at Reading new) (yield_of t))
 reading_goes came.Again old new later comes = inr (inr (falls 1 old new comes))
@@ -48,6 +49,29 @@ turn_goes v = source_goes v.source v.machine
 -- the same, of a mouth and a yield that are equal
 pub turn_goes_to : (old new : MouthState) (did : Yield) → new ≡ (turn_of old).now → did ≡ (turn_of old).did → Goes old (turned new did)
 turn_goes_to old new did now is = subst (λ (v : MouthState). Goes old (turned v did)) (sym now) (subst (λ (y : Yield). Goes old (turned (turn_of old).now y)) (sym is) (turn_goes old))
+
+-- ---- no turn creates a file
+
+yield_makes_nothing : (t : Came) (q : List ℕ) (old new : Mouth) → Comes t old new → yield_of t ≡ Act (deed.Create q) → ⊥
+yield_makes_nothing came.Again q old new comes is = cc
+yield_makes_nothing (came.Deed (deed.Fresh who)) q old new comes is = cc
+yield_makes_nothing (came.Deed (deed.Space who)) q old new comes is = cc
+yield_makes_nothing (came.Deed (deed.Text bytes who)) q old new comes is = cc
+yield_makes_nothing (came.Deed (deed.Error text line who)) q old new comes is = cc
+yield_makes_nothing (came.Deed (deed.Create name)) q old new comes is = comes
+yield_makes_nothing (came.End e) q old new comes is = cc
+
+source_makes_nothing : (s : Source) (m : Mouth) (q : List ℕ) → (source_turn s m).did ≡ Act (deed.Create q) → ⊥
+source_makes_nothing (Unasked name) m q is = cc
+source_makes_nothing (Absent name) m q is = cc
+source_makes_nothing Refused m q is = cc
+source_makes_nothing Reading m q is = yield_makes_nothing (machine_turn m).turned q m (machine_turn m).now (machine_goes m).comes is
+
+pub turn_makes_nothing : (v : MouthState) (q : List ℕ) → (turn_of v).did ≡ Act (deed.Create q) → ⊥
+unfolding turn_of
+turn_makes_nothing v q is = source_makes_nothing v.source v.machine q is
+
+-- ---- the answer of a load
 
 answered_adds : (name : List ℕ) (s : Source) (l : Loaded) (m : Mouth) → IsAnswered (mouth_at s m) (answered name l m)
 unfolding with_file

@@ -1,5 +1,5 @@
 -- What the turns come to in which a scan gathers tokens, many at once.
-use Rattle.std.proofs.Common.{◌≡◌, ◌+◌, ◌-◌, ◌==◌, ◌<◌, ◌≤◌, ℕ, zero, suc, Bool, true, false, List, [], ◌∷◌, ◌++◌, length, drop, take, get_or, Option, Some, None, if◌then◌else◌, refl, sym, ap, ◌∙◌, subst, arith}
+use Rattle.std.proofs.Common.{◌≡◌, ◌+◌, ◌-◌, ◌==◌, ◌<◌, ◌≤◌, ℕ, zero, suc, Bool, false, List, [], ◌∷◌, ◌++◌, length, drop, take, get_or, Option, None, if◌then◌else◌, refl, sym, ap, ◌∙◌, subst, arith}
 use Rattle.std.proofs.lemmas.Bool.Decides.{nat_tests}
 use Rattle.std.proofs.lemmas.List.{append-nil, drop_more}
 use Rattle.etx_matter.specs.declared.token.Token.{Token}
@@ -25,7 +25,7 @@ use Rattle.etx_expand.specs.declared.plan.Turned.TheVariants as came
 use Rattle.etx_expand.specs.Answers.{Planned, reading, quiet}
 use Rattle.etx_expand.specs.Getting.{getting, admitted, got_of, token_got, watch_by, watch_of}
 use Rattle.etx_expand.specs.Meanings.{is_outer, body_reading, reading_of, wanted}
-use Rattle.etx_expand.specs.Moves.{After, after, charged, scanning, planned_turn, made, beside, turned_by}
+use Rattle.etx_expand.specs.Moves.{after, charged, scanning, planned_turn, made, beside, turned_by}
 use Rattle.etx_expand.specs.Turn.{Fetching, scan_fetched}
 use Rattle.etx_assign.specs.Definitions.{body_goes_on, body_or_mark, body_by, body_at, body_row, in_body, definition_over}
 use Rattle.etx_assign.specs.Turn.{assign_row}
@@ -46,6 +46,7 @@ admitted_inner watch.Nothing t mm m inner = refl
 admitted_inner (watch.Defining name) t mm m inner = rw inner refl
 admitted_inner (watch.Absorbing name) t mm m inner = rw inner refl
 admitted_inner (watch.Matching name) t mm m inner = rw inner refl
+admitted_inner (watch.Skipping line) t mm m inner = rw inner refl
 
 got_inner : (w : Watch) (m : Mouth) (t : Token) (ts : List Token) → fresh_in m.input.levels ≡ t ∷ ts → is_outer (token_meaning m.rest.values t) ≡ false → got_of w m ≡ getting (taken 1 m) (got.Token t (token_meaning m.rest.values t))
 unfolding got_of token_got

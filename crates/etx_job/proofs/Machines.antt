@@ -1,6 +1,12 @@
 -- Each turn of the machine goes on: by owner, from what holds of each owner's turns.
-use Rattle.std.proofs.Common.{ℕ, Bool, true, false, nat_lt, List, [], ◌∷◌, length, if◌then◌else◌}
+use Rattle.std.proofs.Common.{ℕ, Bool, true, false, nat_lt, List, [], ◌∷◌, length, arith, if◌then◌else◌}
 use Rattle.etx_matter.specs.declared.token.Token.{Token}
+use Rattle.etx_matter.specs.declared.glue.GlueOrder.{GlueOrder}
+use Rattle.etx_exprs.specs.declared.value.Value.{Value as Amount}
+use Rattle.etx_input.specs.Levels.{line_number}
+use Rattle.etx_state.specs.declared.taker.Outer.{Outer}
+use Rattle.etx_state.specs.declared.taker.Taker.{Taker}
+use Rattle.etx_state.specs.declared.scan.NumberFinish.{NumberFinish}
 use Rattle.etx_matter.specs.declared.end.End.TheVariants.{Capacity}
 use Rattle.etx_matter.specs.declared.end.Limit.TheVariants.{InputLevels, Scans}
 use Rattle.etx_state.specs.declared.key.Meaning.{Meaning}
@@ -15,25 +21,33 @@ use Rattle.etx_state.specs.declared.scan.Scan.{Scan}
 use Rattle.etx_state.specs.declared.scan.Scan.TheVariants as scan
 use Rattle.etx_state.specs.declared.scan.Entry.{Entry}
 use Rattle.etx_state.specs.declared.scan.Entry.TheVariants as entry
-use Rattle.etx_state.specs.Mouths.{Mouth, with_entries}
+use Rattle.etx_state.specs.Mouths.{Mouth, with_entries, with_rest}
 use Rattle.etx_expand.specs.declared.fetch.Idle.TheVariants as idle
 use Rattle.etx_expand.specs.declared.fetch.Fetched.{Fetched}
 use Rattle.etx_expand.specs.declared.fetch.Fetched.TheVariants as fetched
 use Rattle.etx_expand.specs.declared.plan.Move.TheVariants.{Stay}
+use Rattle.etx_expand.specs.declared.plan.Did.TheVariants as did
+use Rattle.etx_expand.specs.declared.plan.Then.TheVariants as afterwards
+use Rattle.etx_expand.specs.declared.plan.WordPlan.TheVariants as plans
+use Rattle.etx_expand.specs.Converting.{number_given, text_given}
+use Rattle.etx_expand.specs.Dimensions.{number_word_row}
+use Rattle.etx_expand.specs.Outers.{outer_row}
 use Rattle.etx_expand.specs.declared.plan.Turned.{Turned}
 use Rattle.etx_expand.specs.declared.plan.Turned.TheVariants as turned
 use Rattle.etx_expand.specs.Answers.{planned}
 use Rattle.etx_expand.specs.Meanings.{has_category}
 use Rattle.etx_expand.specs.Measure.{back_weight, Steps, PaidFor, Falls, Goes}
-use Rattle.etx_expand.specs.Moves.{after, entered, scanning, planned_turn}
-use Rattle.etx_expand.specs.Turn.{main_fetched, scan_fetched}
-use Rattle.etx_expand.proofs.Falling.{scan_fetched_pays, main_fetched_pays, planned_goes, begun_goes, expanded_goes, finished_goes, idle_goes, falls_gone, free_goes, free_cut, expansion_goes, number_goes, text_goes, expand_after_goes, due_goes, say_goes}
-use Rattle.etx_assign.proofs.Falling.{assign_goes, future_goes, number_goes as assign_number_goes}
+use Rattle.etx_state.specs.declared.taker.NumberScan.{NumberScan}
+use Rattle.etx_state.specs.Rests.{RestState}
+use Rattle.etx_expand.specs.Moves.{after, entered, scanning, planned_turn, turned_by}
+use Rattle.etx_expand.specs.Turn.{main_fetched, scan_fetched, number_word_turn}
+use Rattle.etx_expand.proofs.Falling.{scan_fetched_pays, main_fetched_pays, planned_goes, begun_goes, expanded_goes, finished_goes, word_goes, idle_goes, over_goes, cut_goes, falls_above, above_steps, falls_gone, free_goes, free_cut, expansion_goes, number_goes, text_goes, expand_after_goes, due_goes, say_goes}
+use Rattle.etx_assign.proofs.Falling.{assign_goes, future_goes, number_goes as assign_number_goes, text_goes as assign_text_goes, assign_word_goes}
 use Rattle.etx_job.specs.Commands.{command_row, text_taken}
-use Rattle.etx_job.specs.Machine.{command_turn, main_with, main_turn, behind_spaces, scan_token, scan_with, scan_turn, value_turn, kept_turn, entry_turn, top_turn, stack_turn, fitting, machine_turn}
+use Rattle.etx_job.specs.Machine.{command_turn, main_with, main_turn, behind_spaces, scan_token, scan_with, scan_turn, number_given_turn, amount_by, amount_turn, value_turn, word_token, word_with, word_entry_turn, kept_turn, entry_turn, top_turn, stack_turn, fitting, machine_turn}
 
 command_goes : (t : Token) (mm : Meaning) (old m : Mouth) → Falls back_weight old m → Steps 1 old m → Goes old (command_turn t mm m)
-command_goes t mm old m paid steps = begun_goes t (command_row t mm m.rest) old m paid steps
+command_goes t mm old m paid steps = begun_goes t (command_row t mm (line_number m.input) m.rest) old m paid steps
 
 main_goes : (m : Mouth) → Goes m (main_turn m)
 unfolding main_turn
@@ -67,9 +81,46 @@ scan_goes left s m = by (scan_fetched s m).fetched (scan_fetched s m).now (scan_
     by (fetched.Token t mm) n paid steps = token_goes left s t mm m n paid steps
     by (fetched.Idle i) n paid steps = idle_goes left s i m n paid steps
 
+number_given_goes : (f : NumberFinish) (left : ℕ) (a : Amount) (v : Value) (m : Mouth) → Goes (entered (entry.Given left v) m) (number_given_turn f left a m)
+number_given_goes (number_for.Expansion f) left a v m = finished_goes left v (number_given f a (line_number m.input) m.rest) m
+number_given_goes (number_for.Assign f) left a v m = assign_number_goes left f a v m
+
+amount_goes : (os : List Outer) (left : ℕ) (a : Amount) (order : GlueOrder) (taker : Taker) (v : Value) (m : Mouth) → Goes (entered (entry.Given left v) m) (amount_by os left a order taker m)
+amount_goes [] left a order taker v m = number_given_goes taker.finish left a v m
+amount_goes (o ∷ os) left a order taker v m = finished_goes left v (record { rest = m.rest; ended = outer_row o (record taker { outers = os }) a order m.rest }) m
+
 value_goes : (left : ℕ) (v : Value) (m : Mouth) → Goes (entered (entry.Given left v) m) (value_turn left v m)
-value_goes left (value.Number n (number_for.Assign f)) m = assign_number_goes left f n m
+unfolding amount_turn
+value_goes left (value.Number a order taker) m = amount_goes taker.outers left a order taker (value.Number a order taker) m
+value_goes left (value.Text ts (text_for.Expansion f)) m = finished_goes left (value.Text ts (text_for.Expansion f)) (record { rest = m.rest; ended = text_given f ts m.rest }) m
+value_goes left (value.Text ts (text_for.Assign f)) m = assign_text_goes left f ts (value.Text ts (text_for.Assign f)) m
 value_goes left (value.Text ts (text_for.Control f)) m = finished_goes left (value.Text ts (text_for.Control f)) (text_taken f ts m.rest) m
+
+-- a row of a number may change the rest, which weighs nothing
+rest_falls : (r : RestState) (n : ℕ) (old m : Mouth) → Falls n old m → Falls n old (with_rest r m)
+rest_falls r n old m paid = paid
+
+number_word_goes : (left : ℕ) (n : NumberScan) (taker : Taker) (ls : List Token) (t : Token) (old m : Mouth) → Falls back_weight old m → Steps 1 old m → Goes (entered (entry.Word left ls (scan.Number n taker)) old) (number_word_turn left n taker ls t m)
+number_word_goes left n taker ls t old m paid steps =
+    let row = number_word_row n taker ls t m.rest in
+    word_goes left ls (scan.Number n taker) t row.plan old (with_rest row.rest m) (rest_falls row.rest back_weight old m paid) (record { forth = steps.forth; few = steps.few })
+
+word_token_goes : (left : ℕ) (ls : List Token) (s : Scan) (t : Token) (old m : Mouth) → Falls back_weight old m → Steps 1 old m → Goes (entered (entry.Word left ls s) old) (word_token left ls s t m)
+word_token_goes left ls (scan.Number n taker) t old m paid steps = number_word_goes left n taker ls t old m paid steps
+word_token_goes left ls (scan.Assign a) t old m paid steps = assign_word_goes left a ls t old m paid steps
+word_token_goes left ls (scan.Expansion e) t old m paid steps = word_goes left ls (scan.Expansion e) t (plans.Lost (record { then = afterwards.More (scan.Expansion e); did = did.Nothing })) old m paid steps
+word_token_goes left ls (scan.Text o f) t old m paid steps = word_goes left ls (scan.Text o f) t (plans.Lost (record { then = afterwards.More (scan.Text o f); did = did.Nothing })) old m paid steps
+word_token_goes left ls (scan.Control c) t old m paid steps = word_goes left ls (scan.Control c) t (plans.Lost (record { then = afterwards.More (scan.Control c); did = did.Nothing })) old m paid steps
+
+word_entry_goes : (left : ℕ) (ls : List Token) (s : Scan) (m : Mouth) → Goes (entered (entry.Word left ls s) m) (word_entry_turn left ls s m)
+unfolding word_entry_turn
+word_entry_goes left ls s m = by (scan_fetched s m).fetched (scan_fetched s m).now (scan_fetched_pays s m).paid (scan_fetched_pays s m).steps
+  where
+    by : (f : Fetched) (n : Mouth) → PaidFor f m n → Steps 1 m n → Goes (entered (entry.Word left ls s) m) (word_with left ls s f n)
+    by (fetched.Token t mm) n paid steps = word_token_goes left ls s t m n paid steps
+    by (fetched.Idle (idle.Expands t what)) n paid steps = expanded_goes what t (entered (entry.Word left ls s) m) (entered (entry.Word left ls s) n) (falls_above back_weight (entry.Word left ls s) (entry.Word left ls s) m n (omega arith) paid) (above_steps (entry.Word left ls s) (entry.Word left ls s) m n steps)
+    by (fetched.Idle (idle.Over d)) n paid steps = over_goes (entry.Word left ls s) (turned_by d n) m n paid steps
+    by (fetched.Idle (idle.Cut text)) n paid steps = cut_goes (entry.Word left ls s) (entry.Word left ls s) text m n steps
 
 kept_goes : (kept : Token) (by : Keeper) (m : Mouth) → Goes (entered (entry.Kept kept by) m) (kept_turn kept by m)
 kept_goes kept keeper.ExpandAfter m = expand_after_goes kept m
@@ -81,6 +132,7 @@ entry_goes (entry.Given left v) m = value_goes left v m
 entry_goes (entry.Kept kept by) m = kept_goes kept by m
 entry_goes (entry.Due t) m = due_goes t m
 entry_goes (entry.Say text) m = say_goes text m
+entry_goes (entry.Word left ls s) m = word_entry_goes left ls s m
 
 top_goes : (es : List Entry) (m : Mouth) → Goes (with_entries es m) (top_turn es (with_entries es m))
 top_goes [] m = main_goes (with_entries [] m)

@@ -1,14 +1,17 @@
 -- What a turn at rest comes to at which a command begins that does nothing beside.
-use Rattle.std.proofs.Common.{◌≡◌, ◌⊎◌, inl, inr, ℕ, suc, ◌+◌, ◌≤◌, ◌==◌, Bool, true, false, List, [], ◌∷◌, length, Option, Some, None, if◌then◌else◌, refl, sym, ap, ◌∙◌, subst, arith}
+use Rattle.std.proofs.Common.{◌≡◌, ◌⊎◌, inl, inr, ℕ, ◌+◌, ◌≤◌, ◌==◌, Bool, true, false, List, [], ◌∷◌, length, drop, Option, Some, None, if◌then◌else◌, refl, sym, ap, ◌∙◌, subst, arith}
 use Rattle.etx_matter.specs.declared.end.End.TheVariants.{Unbuilt, Capacity}
 use Rattle.etx_matter.specs.declared.end.Limit.TheVariants.{Groups}
 use Rattle.etx_matter.specs.declared.token.Token.{Token}
 use Rattle.etx_prims.specs.declared.command.Primitive.{Primitive}
 use Rattle.etx_prims.specs.declared.general.GroupEdge.{GroupEdge}
 use Rattle.etx_prims.specs.declared.general.GroupEdge.TheVariants as edges
-use Rattle.etx_input.specs.declared.origin.Origin.TheVariants.{Fresh}
-use Rattle.etx_input.specs.Levels.{InputState, with_list}
-use Rattle.etx_input.specs.Runs.{skipped}
+use Rattle.etx_input.specs.declared.level.Level.{Level}
+use Rattle.etx_input.specs.declared.level.Level.TheVariants as level
+use Rattle.etx_input.specs.declared.origin.Origin.{Origin}
+use Rattle.etx_input.specs.declared.origin.Origin.TheVariants.{Kept}
+use Rattle.etx_input.specs.Levels.{InputState, list_before, with_list, line_in, line_number}
+use Rattle.etx_input.specs.Runs.{list_unless_over, levels_skipped, skipped}
 use Rattle.etx_state.specs.declared.key.GroupKind.{GroupKind}
 use Rattle.etx_state.specs.declared.key.GroupKind.TheVariants as groups
 use Rattle.etx_state.specs.declared.key.Meaning.{Meaning}
@@ -26,6 +29,7 @@ use Rattle.etx_expand.specs.declared.plan.Push.TheVariants as push
 use Rattle.etx_expand.specs.declared.plan.Start.{Start}
 use Rattle.etx_expand.specs.declared.plan.Turned.TheVariants as came
 use Rattle.etx_expand.specs.Answers.{Begun, begun, nothing, start_ends}
+use Rattle.etx_expand.specs.Expanding.{expansion_begun}
 use Rattle.etx_expand.specs.Meanings.{expandable_of}
 use Rattle.etx_expand.specs.Moves.{After, after, pushed, inserted, beside, turned_by, begun_turn}
 use Rattle.etx_expand.specs.Turn.{main_fetched, wanted_as}
@@ -99,24 +103,27 @@ command_keeps (command.Message kind) p t r = inr refl
 command_keeps (command.Prefix kind) p t r = inr refl
 command_keeps command.Other p t r = inr refl
 
-row_keeps : (t : Token) (mm : Meaning) (r : RestState) → Keeps (command_row t mm r) r
-unfolding command_row
-row_keeps t (means.Char code cat) r = character_keeps cat r
-row_keeps t (means.Primitive p) r = command_keeps (command_of p) p t r
-row_keeps t means.Unexpanded r = inl refl
-row_keeps t means.EndTemplate r = inr refl
-row_keeps t means.Undefined r = inr refl
-row_keeps t (means.Macro d) r = inr refl
+row_keeps : (t : Token) (mm : Meaning) (line : ℕ) (r : RestState) → Keeps (command_row t mm line r) r
+unfolding command_row expansion_begun
+row_keeps t (means.Char code cat) line r = character_keeps cat r
+row_keeps t (means.Primitive p) line r = command_keeps (command_of p) p t r
+row_keeps t means.Unexpanded line r = inl refl
+row_keeps t means.EndTemplate line r = inr refl
+row_keeps t (means.CharGiven code) line r = inr refl
+row_keeps t (means.MathGiven code) line r = inr refl
+row_keeps t (means.Register kind number) line r = inr refl
+row_keeps t means.Undefined line r = inr refl
+row_keeps t (means.Macro d) line r = inr refl
 
-pub rest_is_kept : (t : Token) (mm : Meaning) (r new : RestState) (start : Start) → start ≡ (command_row t mm r).start → new ≡ (command_row t mm r).rest → is_nothing start.did ≡ false → new ≡ r
-rest_is_kept t mm r new start start_is new_is some = elim (row_keeps t mm r) [
+pub rest_is_kept : (t : Token) (mm : Meaning) (line : ℕ) (r new : RestState) (start : Start) → start ≡ (command_row t mm line r).start → new ≡ (command_row t mm line r).rest → is_nothing start.did ≡ false → new ≡ r
+rest_is_kept t mm line r new start start_is new_is some = elim (row_keeps t mm line r) [
   | inl quiet ↦ absurd (let no : true ≡ false = sym (ap (λ (x : Start). is_nothing x.did) start_is ∙ ap is_nothing quiet) ∙ some in cc)
   | inr same ↦ new_is ∙ same
 ]
 
 pub nothing_is : (d : Did) → is_nothing d ≡ true → d ≡ did.Nothing
 nothing_is did.Nothing is = refl
-nothing_is (did.Deed d) is = absurd (let no : false ≡ true = is in cc)
+nothing_is did.Space is = absurd (let no : false ≡ true = is in cc)
 nothing_is (did.Error f) is = absurd (let no : false ≡ true = is in cc)
 nothing_is (did.End e) is = absurd (let no : false ≡ true = is in cc)
 
@@ -130,6 +137,7 @@ unfolding pushed inserted
 pushed_spent (push.Insert insert.Nothing) m = refl
 pushed_spent (push.Insert (insert.Token t)) m = refl
 pushed_spent (push.Insert (insert.Text ts)) m = refl
+pushed_spent (push.Insert (insert.Kept ts)) m = refl
 pushed_spent (push.Begin s) m = refl
 
 pushed_entries : (p : Push) (m : Mouth) → length (pushed p m).entries ≤ length m.entries + 1
@@ -137,13 +145,19 @@ unfolding pushed inserted
 pushed_entries (push.Insert insert.Nothing) m = omega arith
 pushed_entries (push.Insert (insert.Token t)) m = omega arith
 pushed_entries (push.Insert (insert.Text ts)) m = omega arith
+pushed_entries (push.Insert (insert.Kept ts)) m = omega arith
 pushed_entries (push.Begin s) m = omega arith
+
+one_kept : (ts : List Token) (i : InputState) → length (list_before ts Kept i).levels ≤ length i.levels + 1
+one_kept [] i = omega arith
+one_kept (t ∷ ts) i = omega arith
 
 pushed_levels : (p : Push) (m : Mouth) → length (pushed p m).input.levels ≤ length m.input.levels + 1
 unfolding pushed inserted with_list
 pushed_levels (push.Insert insert.Nothing) m = omega arith
 pushed_levels (push.Insert (insert.Token t)) m = one_more (t ∷ []) m.input
 pushed_levels (push.Insert (insert.Text ts)) m = one_more ts m.input
+pushed_levels (push.Insert (insert.Kept ts)) m = one_kept ts m.input
 pushed_levels (push.Begin s) m = omega arith
 
 -- ---- the turn
@@ -180,12 +194,34 @@ few_levels b m depth =
 command_fetched : (m : Mouth) (t : Token) (mm : Meaning) → IsNext t m → IsCommand (token_meaning m.rest.values t) mm → main_fetched m ≡ record { now = taken 1 m; fetched = wanted_as (expandable_of mm) t mm }
 command_fetched m t mm next is = subst (λ (x : Meaning). main_fetched m ≡ record { now = taken 1 m; fetched = wanted_as (expandable_of x) t x }) (sym is.0) (fresh_got m t next.first.0 next.first.1 next.entries)
 
-pub command_is_made : (m : Mouth) (t : Token) (mm : Meaning) → IsNext t m → IsCommand (token_meaning m.rest.values t) mm → (command_row t mm m.rest).start.did ≡ did.Nothing → machine_turn m ≡ after (behind (command_row t mm m.rest) m) came.Again
+-- ---- the number of the line stays
+
+line_over : (ts : List Token) (origin : Origin) (ls : List Level) (left : ℕ) → line_in (list_unless_over ts origin ls) left ≡ line_in ls left
+line_over [] origin ls left = refl
+line_over (t ∷ ts) origin ls left = refl
+
+line_skipped : (count : ℕ) (ls : List Level) (left : ℕ) → line_in (levels_skipped count ls) left ≡ line_in ls left
+line_skipped count [] left = refl
+line_skipped count (level.File f ∷ ls) left = refl
+line_skipped count (level.List l ∷ ls) left = line_over (drop count l.rest) l.origin ls left
+
+line_stays : (m : Mouth) → line_number (taken 1 m).input ≡ line_number m.input
+unfolding line_number skipped
+line_stays m = line_skipped 1 m.input.levels m.input.left
+
+-- the row of a command, in the line that was read last
+abbrev row_of : Token → Meaning → Mouth → Begun
+row_of t mm m = command_row t mm (line_number m.input) m.rest
+
+turn_of_row : (t : Token) (mm : Meaning) (m : Mouth) → command_turn t mm (taken 1 m) ≡ begun_turn t (row_of t mm m) (taken 1 m)
+turn_of_row t mm m = ap (λ (line : ℕ). begun_turn t (command_row t mm line m.rest) (taken 1 m)) (line_stays m)
+
+pub command_is_made : (m : Mouth) (t : Token) (mm : Meaning) → IsNext t m → IsCommand (token_meaning m.rest.values t) mm → (row_of t mm m).start.did ≡ did.Nothing → machine_turn m ≡ after (behind (row_of t mm m) m) came.Again
 command_is_made m t mm next is quiet =
     let less = next.depth in
-    within_limits m (behind (command_row t mm m.rest) m) (few_entries (command_row t mm m.rest) m next.entries) (few_levels (command_row t mm m.rest) m (omega (arith, less))) (
+    within_limits m (behind (row_of t mm m) m) (few_entries (row_of t mm m) m next.entries) (few_levels (row_of t mm m) m (omega (arith, less))) (
     stack_is m _ next.entries (
-    main_command m (taken 1 m) t mm (command_fetched m t mm next is) is.1 ∙ begun_quietly t (command_row t mm m.rest) (taken 1 m) quiet))
+    main_command m (taken 1 m) t mm (command_fetched m t mm next is) is.1 ∙ turn_of_row t mm m ∙ begun_quietly t (row_of t mm m) (taken 1 m) quiet))
 
 -- ---- as the code has it
 
@@ -197,15 +233,17 @@ command_spends t r start n new quiet is =
 abbrev before : Mouth → RestState → InputState → Mouth
 before m r i = record { rest = r; input = i; entries = m.entries; spent = m.spent + 1 }
 
-pub command_within : (budget : ℕ) (m : Mouth) (t : Token) (mm : Meaning) (r : RestState) (start : Start) (i : InputState) (new : Mouth) → r ≡ (command_row t mm m.rest).rest → start.did ≡ did.Nothing → i ≡ skipped 1 m.input → new ≡ (begun_turn t (record { rest = r; start = start }) (record { rest = r; input = i; entries = m.entries; spent = m.spent + 1 })).now → m.spent + 1 ≤ budget → new.spent ≤ budget
-command_within budget m t mm r start i new rest_is quiet skip made room = let spends : new.spent ≡ m.spent + 1 = command_spends t r start (before m r i) new quiet made in omega (arith, spends, room)
+pub command_within : (budget : ℕ) (m : Mouth) (t : Token) (r : RestState) (start : Start) (i : InputState) (new : Mouth) → start.did ≡ did.Nothing → new ≡ (begun_turn t (record { rest = r; start = start }) (record { rest = r; input = i; entries = m.entries; spent = m.spent + 1 })).now → m.spent + 1 ≤ budget → new.spent ≤ budget
+command_within budget m t r start i new quiet made room = let spends : new.spent ≡ m.spent + 1 = command_spends t r start (before m r i) new quiet made in omega (arith, spends, room)
 
-pub command_forth : (m : Mouth) (t : Token) (mm : Meaning) (r : RestState) (start : Start) (i : InputState) (new : Mouth) → r ≡ (command_row t mm m.rest).rest → start.did ≡ did.Nothing → i ≡ skipped 1 m.input → new ≡ (begun_turn t (record { rest = r; start = start }) (record { rest = r; input = i; entries = m.entries; spent = m.spent + 1 })).now → m.spent ≤ new.spent
-command_forth m t mm r start i new rest_is quiet skip made = let spends : new.spent ≡ m.spent + 1 = command_spends t r start (before m r i) new quiet made in omega (arith, spends)
+pub command_forth : (m : Mouth) (t : Token) (r : RestState) (start : Start) (i : InputState) (new : Mouth) → start.did ≡ did.Nothing → new ≡ (begun_turn t (record { rest = r; start = start }) (record { rest = r; input = i; entries = m.entries; spent = m.spent + 1 })).now → m.spent ≤ new.spent
+command_forth m t r start i new quiet made = let spends : new.spent ≡ m.spent + 1 = command_spends t r start (before m r i) new quiet made in omega (arith, spends)
 
-pub command_runs : (budget : ℕ) (m : Mouth) (t : Token) (mm : Meaning) (r : RestState) (start : Start) (i : InputState) (new : Mouth) → IsNext t m → IsCommand (token_meaning m.rest.values t) mm → start ≡ (command_row t mm m.rest).start → r ≡ (command_row t mm m.rest).rest → start.did ≡ did.Nothing → i ≡ skipped 1 m.input → new ≡ (begun_turn t (record { rest = r; start = start }) (record { rest = r; input = i; entries = m.entries; spent = m.spent + 1 })).now → m.spent + 1 ≤ budget → Runs budget (mouth_at Reading m) (mouth_at Reading new)
-command_runs budget m t mm r start i new next is start_is rest_is quiet skip made room =
-    let b = command_row t mm m.rest in
+pub command_runs : (budget : ℕ) (m : Mouth) (t : Token) (mm : Meaning) (line : ℕ) (r : RestState) (start : Start) (i : InputState) (new : Mouth) → line ≡ line_number m.input → IsNext t m → IsCommand (token_meaning m.rest.values t) mm → start ≡ (command_row t mm line m.rest).start → r ≡ (command_row t mm line m.rest).rest → start.did ≡ did.Nothing → i ≡ skipped 1 m.input → new ≡ (begun_turn t (record { rest = r; start = start }) (record { rest = r; input = i; entries = m.entries; spent = m.spent + 1 })).now → m.spent + 1 ≤ budget → Runs budget (mouth_at Reading m) (mouth_at Reading new)
+command_runs budget m t mm line r start i new line_is next is start_by rest_by quiet skip made room =
+    let b = row_of t mm m in
+    let start_is : start ≡ b.start = start_by ∙ ap (λ (n : ℕ). (command_row t mm n m.rest).start) line_is in
+    let rest_is : r ≡ b.rest = rest_by ∙ ap (λ (n : ℕ). (command_row t mm n m.rest).rest) line_is in
     let still : b.start.did ≡ did.Nothing = ap (λ (x : Start). x.did) (sym start_is) ∙ quiet in
     let there : new ≡ behind b m = made ∙ (λ k. (begun_turn t (record { rest = rest_is k; start = start_is k }) (record { rest = rest_is k; input = skip k; entries = m.entries; spent = m.spent + 1 })).now) ∙ ap (λ (a : After). a.now) (begun_quietly t b (with_rest b.rest (taken 1 m)) still) in
     let spends : (behind b m).spent ≡ m.spent + 1 = pushed_spent b.start.push (with_rest b.rest (taken 1 m)) in

@@ -6,7 +6,7 @@ use Rattle.etx_prims.specs.declared.command.Primitive.{Primitive}
 use Rattle.etx_input.specs.declared.level.Level.{Level}
 use Rattle.etx_input.specs.declared.level.Level.TheVariants as level
 use Rattle.etx_input.specs.declared.origin.Origin.TheVariants.{Fresh}
-use Rattle.etx_input.specs.Levels.{InputState, list_before, with_list}
+use Rattle.etx_input.specs.Levels.{InputState, list_before, with_list, line_number}
 use Rattle.etx_input.specs.Runs.{fresh_in, list_unless_over, levels_skipped, skipped}
 use Rattle.etx_input.proofs.Runs.{first, more, rest}
 use Rattle.etx_state.specs.declared.key.Meaning.{Meaning}
@@ -43,20 +43,23 @@ fresh_got m t ts is none = rw (none, first _ _ m.input t ts is) refl
 
 -- ---- an idle token
 
-idle_row : (t : Token) (mm : Meaning) (r : RestState) → IsIdle mm → (expandable_of mm ≡ None) × (command_row t mm r ≡ begun r nothing)
+idle_row : (t : Token) (mm : Meaning) (line : ℕ) (r : RestState) → IsIdle mm → (expandable_of mm ≡ None) × (command_row t mm line r ≡ begun r nothing)
 unfolding expandable_of primitive_expandable command_row command_of command_begun character_row
-idle_row t means.Undefined r is = absurd is
-idle_row t (means.Primitive p) r (inl is) = subst (λ (q : Primitive). (expandable_of (means.Primitive q) ≡ None) × (command_row t (means.Primitive q) r ≡ begun r nothing)) (sym is) (refl, refl)
-idle_row t (means.Primitive p) r (inr is) = subst (λ (q : Primitive). (expandable_of (means.Primitive q) ≡ None) × (command_row t (means.Primitive q) r ≡ begun r nothing)) (sym is) (refl, refl)
-idle_row t (means.Char code cat) r is = (refl, subst (λ (k : ℕ). character_row k r ≡ begun r nothing) (sym is) refl)
-idle_row t (means.Macro d) r is = absurd is
-idle_row t means.Unexpanded r is = (refl, refl)
-idle_row t means.EndTemplate r is = absurd is
+idle_row t means.Undefined line r is = absurd is
+idle_row t (means.Primitive p) line r (inl is) = subst (λ (q : Primitive). (expandable_of (means.Primitive q) ≡ None) × (command_row t (means.Primitive q) line r ≡ begun r nothing)) (sym is) (refl, refl)
+idle_row t (means.Primitive p) line r (inr is) = subst (λ (q : Primitive). (expandable_of (means.Primitive q) ≡ None) × (command_row t (means.Primitive q) line r ≡ begun r nothing)) (sym is) (refl, refl)
+idle_row t (means.Char code cat) line r is = (refl, subst (λ (k : ℕ). character_row k r ≡ begun r nothing) (sym is) refl)
+idle_row t (means.Macro d) line r is = absurd is
+idle_row t means.Unexpanded line r is = (refl, refl)
+idle_row t means.EndTemplate line r is = absurd is
+idle_row t (means.CharGiven code) line r is = absurd is
+idle_row t (means.MathGiven code) line r is = absurd is
+idle_row t (means.Register kind number) line r is = absurd is
 
 abbrev does_nothing : (m n : Mouth) → Type 0
 does_nothing m n = machine_turn m ≡ after n came.Again
 
-main_nothing : (m n : Mouth) (t : Token) (mm : Meaning) → main_fetched m ≡ record { now = n; fetched = wanted_as (expandable_of mm) t mm } → (expandable_of mm ≡ None) × (command_row t mm n.rest ≡ begun n.rest nothing) → main_turn m ≡ after n came.Again
+main_nothing : (m n : Mouth) (t : Token) (mm : Meaning) → main_fetched m ≡ record { now = n; fetched = wanted_as (expandable_of mm) t mm } → (expandable_of mm ≡ None) × (command_row t mm (line_number n.input) n.rest ≡ begun n.rest nothing) → main_turn m ≡ after n came.Again
 unfolding main_turn pushed inserted beside turned_by
 main_nothing m n t mm fetch row = rw (fetch, row.0, row.1) refl
 
@@ -93,7 +96,7 @@ idle_turn : (m : Mouth) (t : Token) (ts : List Token) → fresh_in m.input.level
 idle_turn m t ts is at idle =
     fits m (taken 1 m) (still_at_rest 1 m at) (
     stack_is m (after (taken 1 m) came.Again) at.entries (
-    main_nothing m (taken 1 m) t (token_meaning m.rest.values t) (fresh_got m t ts is at.entries) (idle_row t (token_meaning m.rest.values t) m.rest idle)))
+    main_nothing m (taken 1 m) t (token_meaning m.rest.values t) (fresh_got m t ts is at.entries) (idle_row t (token_meaning m.rest.values t) (line_number (taken 1 m).input) m.rest idle)))
 
 pub turn_is_quiet : (budget : ℕ) (m n : Mouth) → machine_turn m ≡ after n came.Again → n.spent ≤ budget → IsQuiet budget (mouth_at Reading m) (mouth_at Reading n)
 unfolding turn_of
@@ -161,6 +164,9 @@ plain_macro (means.Macro d) body is = by (is_plain d.parts) refl is
     by false plain same = absurd (let no : None ≡ Some body = same in cc)
 plain_macro means.Unexpanded body is = absurd (let no : None ≡ Some body = is in cc)
 plain_macro means.EndTemplate body is = absurd (let no : None ≡ Some body = is in cc)
+plain_macro (means.CharGiven code) body is = absurd (let no : None ≡ Some body = is in cc)
+plain_macro (means.MathGiven code) body is = absurd (let no : None ≡ Some body = is in cc)
+plain_macro (means.Register kind number) body is = absurd (let no : None ≡ Some body = is in cc)
 
 pub call_runs : (budget : ℕ) (m : Mouth) (t : Token) (ts : List Token) (body : List Token) → fresh_in m.input.levels ≡ t ∷ ts → m.entries ≡ [] → plain_body (token_meaning m.rest.values t) ≡ Some body → length (called body m).input.levels ≤ 10000 → m.spent + 1 ≤ budget → Runs budget (mouth_at Reading m) (mouth_at Reading (called body m))
 call_runs budget m t ts body is none plain depth le =

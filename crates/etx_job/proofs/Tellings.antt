@@ -1,5 +1,5 @@
--- What holds of a job's history: that the log has what was said, and that no other file is written, and none but the job's own is
--- asked for.
+-- What holds of a job's history: that the log has what was said, that no other file is created or written, and that none but the
+-- job's own is asked for.
 use Rattle.std.proofs.Common.{◌≡◌, ℕ, zero, suc, ◌+◌, Bool, true, false, cond, nat_lt, List, [], ◌∷◌, ◌++◌, Option, Some, None, refl, sym, ◌∙◌, ap, subst, append_assoc, arith, codes}
 use Rattle.std.proofs.lemmas.List.{append-nil}
 use Rattle.etx_outside.specs.Entries.{Asked, Made, Byte, Shown, History, said, bytes_to, shown}
@@ -27,27 +27,36 @@ use Rattle.etx_job.specs.Errors.{is_error, most_errors}
 use Rattle.etx_job.specs.Turn.{turn_of, line_number_of, yield_of, source_turn, answered, resumed, first_mouth}
 use Rattle.etx_job.specs.Words.{log_name}
 use Rattle.etx_job.specs.Chain.{Start, World, with_deeds, closing, ended, with_error, counted, handled, turned_on, step_open, step_from, step, opening, chain}
-use Rattle.etx_job.specs.Texts.{added_to, OnlyTo, OnlyAsks, is_told, AllTold}
+use Rattle.etx_job.specs.Texts.{added_to, OnlyTo, OnlyMakes, OnlyAsks, is_told, AllTold}
+use Rattle.etx_job.proofs.Falling.{turn_makes_nothing}
 use Rattle.etx_job.proofs.Logs.{InLog, added-append, added-text, written_in, deed_in, deeds_in, chain_in}
 
-module _ (log : List ℕ) (Holds : History → Type 0) (Allowed : Bool → Type 0) (both : Allowed true) (Named : List ℕ → Type 0)
+-- what is asked of a deed: of a text that it goes to where it may, and of a file that it may be created
+abbrev Fine : (Bool → Type 0) → (List ℕ → Type 0) → Deed → Type 0
+Fine Allowed Makes (Fresh who) = Allowed (is_shown_to who)
+Fine Allowed Makes (Space who) = Allowed (is_shown_to who)
+Fine Allowed Makes (Text text who) = Allowed (is_shown_to who)
+Fine Allowed Makes (Error text line who) = Allowed (is_shown_to who)
+Fine Allowed Makes (Create name) = Makes name
+
+module _ (log : List ℕ) (Holds : History → Type 0) (Allowed : Bool → Type 0) (both : Allowed true) (Makes : List ℕ → Type 0) (Named : List ℕ → Type 0)
     (with_text : (h : History) (text : List ℕ) (is : Bool) → Allowed is → Holds h → Holds (h ++ (bytes_to log text ++ entries_if is (shown text))))
-    (with_made : (h : History) (name : List ℕ) → Holds h → Holds (h ++ Made name ∷ []))
+    (with_made : (h : History) (name : List ℕ) → Makes name → Holds h → Holds (h ++ Made name ∷ []))
     (with_asked : (h : History) (name : List ℕ) → Named name → Holds h → Holds (h ++ Asked name ∷ [])) where
   text_holds : (p : PenState) (h : History) (text : List ℕ) (is : Bool) → Allowed is → InLog log p h → Holds h → Holds (h ++ written_by p.created (log_of p.created) text is)
   text_holds p h text is fine i holds = subst (λ (g : History). Holds (h ++ g)) (sym (written_in log p h text is i)) (with_text h text is fine holds)
 
-  deed_holds : (p : PenState) (h : History) (d : Deed) → Allowed (is_told d) → InLog log p h → Holds h → Holds (h ++ deed_entries p d)
+  deed_holds : (p : PenState) (h : History) (d : Deed) → Fine Allowed Makes d → InLog log p h → Holds h → Holds (h ++ deed_entries p d)
   unfolding text_written error_reported file_made
   deed_holds p h (Fresh who) fine i holds = text_holds p h (inside_line p.at_start (codes "\n")) (is_shown_to who) fine i holds
   deed_holds p h (Space who) fine i holds = text_holds p h (inside_line p.at_start (codes " ")) (is_shown_to who) fine i holds
   deed_holds p h (Text text who) fine i holds = text_holds p h text (is_shown_to who) fine i holds
   deed_holds p h (Error text line who) fine i holds = text_holds p h (error_text p.at_start text line) (is_shown_to who) fine i holds
-  deed_holds p h (Create name) fine i holds = with_made h name holds
+  deed_holds p h (Create name) fine i holds = with_made h name fine holds
 
   abbrev EachAllowed : List Deed → Type 0
   EachAllowed [] = Unit {0}
-  EachAllowed (d ∷ ds) = Allowed (is_told d) × EachAllowed ds
+  EachAllowed (d ∷ ds) = Fine Allowed Makes d × EachAllowed ds
 
   deeds_hold : (ds : List Deed) (p : PenState) (h : History) → EachAllowed ds → InLog log p h → Holds h → Holds (h ++ entries p ds)
   deeds_hold [] p h fine i holds = subst Holds (sym (append-nil h)) holds
@@ -75,20 +84,20 @@ module _ (log : List ℕ) (Holds : History → Type 0) (Allowed : Bool → Type 
     | false ↦ ended_holds end.Hundred (with_error w) i holds
   ]
 
-  handled_holds : (start : Start) (w : World) (y : Yield) → ((d : Deed) → y ≡ Act d → Allowed (is_told d)) → ((name : List ℕ) → y ≡ Load name → Named name) → InLog log w.pen w.trace → Holds w.trace → Holds (handled start w y).trace
+  handled_holds : (start : Start) (w : World) (y : Yield) → ((d : Deed) → y ≡ Act d → Fine Allowed Makes d) → ((name : List ℕ) → y ≡ Load name → Named name) → InLog log w.pen w.trace → Holds w.trace → Holds (handled start w y).trace
   handled_holds start w Quiet fine named i holds = holds
   handled_holds start w (Act d) fine named i holds = counted_holds (is_error d) (with_deeds (d ∷ []) w) (deeds_in log (d ∷ []) w.pen w.trace i) (deeds_hold (d ∷ []) w.pen w.trace (fine d refl, tt) i holds)
   handled_holds start w (Load name) fine named i holds = with_asked w.trace name (named name refl) holds
   handled_holds start w (Done e) fine named i holds = ended_holds e w i holds
 
-  open_holds : (start : Start) (w : World) → ((d : Deed) → (turn_of w.mouth).did ≡ Act d → Allowed (is_told d)) → ((name : List ℕ) → (turn_of w.mouth).did ≡ Load name → Named name) → InLog log w.pen w.trace → Holds w.trace → Holds (step_open start w).trace
+  open_holds : (start : Start) (w : World) → ((d : Deed) → (turn_of w.mouth).did ≡ Act d → Fine Allowed Makes d) → ((name : List ℕ) → (turn_of w.mouth).did ≡ Load name → Named name) → InLog log w.pen w.trace → Holds w.trace → Holds (step_open start w).trace
   open_holds start w fine named i holds =
       elim (nat_lt start.job.budget (turn_of w.mouth).now.machine.spent) as (λ b. Holds (cond b (ended end.Spent w) (handled start (turned_on w) (turn_of w.mouth).did)).trace) [
         | true ↦ ended_holds end.Spent w i holds
         | false ↦ handled_holds start (turned_on w) (turn_of w.mouth).did fine named i holds
       ]
 
-  pub step_holds : (start : Start) (w : World) → ((d : Deed) → (turn_of w.mouth).did ≡ Act d → Allowed (is_told d)) → ((name : List ℕ) → (turn_of w.mouth).did ≡ Load name → Named name) → InLog log w.pen w.trace → Holds w.trace → Holds (step start w).trace
+  pub step_holds : (start : Start) (w : World) → ((d : Deed) → (turn_of w.mouth).did ≡ Act d → Fine Allowed Makes d) → ((name : List ℕ) → (turn_of w.mouth).did ≡ Load name → Named name) → InLog log w.pen w.trace → Holds w.trace → Holds (step start w).trace
   unfolding step
   step_holds start w fine named i holds = by w.end
     where
@@ -101,6 +110,13 @@ AnyText b = Unit {0}
 
 abbrev AnyName : List ℕ → Type 0
 AnyName name = Unit {0}
+
+any_fine : (d : Deed) → Fine AnyText AnyName d
+any_fine (Fresh who) = tt
+any_fine (Space who) = tt
+any_fine (Text text who) = tt
+any_fine (Error text line who) = tt
+any_fine (Create name) = tt
 
 -- ---- the log has what was said
 
@@ -122,8 +138,15 @@ module _ (log : List ℕ) where
       ∙ ap (λ (l : List ℕ). l ++ text) same
       ∙ sym (ap (λ b. said (h ++ (bytes_to log text ++ entries_if b (shown text)))) both ∙ said-text h text)
 
-  said_made : (h : History) (name : List ℕ) → IsSaid h → IsSaid (h ++ Made name ∷ [])
-  said_made h name same = added-append log h (Made name ∷ []) ∙ append-nil (added_to log h) ∙ same ∙ sym (said-append h (Made name ∷ []) ∙ append-nil (said h))
+  said_fine : (d : Deed) → is_told d ≡ true → Fine IsBoth AnyName d
+  said_fine (Fresh who) is = is
+  said_fine (Space who) is = is
+  said_fine (Text text who) is = is
+  said_fine (Error text line who) is = is
+  said_fine (Create name) is = tt
+
+  said_made : (h : History) (name : List ℕ) → AnyName name → IsSaid h → IsSaid (h ++ Made name ∷ [])
+  said_made h name any same = added-append log h (Made name ∷ []) ∙ append-nil (added_to log h) ∙ same ∙ sym (said-append h (Made name ∷ []) ∙ append-nil (said h))
 
   said_asked : (h : History) (name : List ℕ) → AnyName name → IsSaid h → IsSaid (h ++ Asked name ∷ [])
   said_asked h name any same = added-append log h (Asked name ∷ []) ∙ append-nil (added_to log h) ∙ same ∙ sym (said-append h (Asked name ∷ []) ∙ append-nil (said h))
@@ -139,12 +162,13 @@ log_said start (suc n) all =
     (IsBoth log)
     refl
     AnyName
+    AnyName
     (said_text log)
     (said_made log)
     (said_asked log)
     start
     (chain start n)
-    (λ d is. all n d (omega arith) is)
+    (λ d is. said_fine log d (all n d (omega arith) is))
     (λ name is. tt)
     (chain_in start n)
     (log_said start n (λ m d lt is. all m d (omega (arith, lt)) is))
@@ -171,8 +195,8 @@ module _ (log : List ℕ) where
   only_text : (h : History) (text : List ℕ) (is : Bool) → AnyText is → OnlyTo log h → OnlyTo log (h ++ (bytes_to log text ++ entries_if is (shown text)))
   only_text h text is fine only = only-append h (bytes_to log text ++ entries_if is (shown text)) only (only-append (bytes_to log text) (entries_if is (shown text)) (only-bytes_to text) (only-shown is text))
 
-  only_made : (h : History) (name : List ℕ) → OnlyTo log h → OnlyTo log (h ++ Made name ∷ [])
-  only_made h name only = only-append h (Made name ∷ []) only tt
+  only_made_too : (h : History) (name : List ℕ) → AnyName name → OnlyTo log h → OnlyTo log (h ++ Made name ∷ [])
+  only_made_too h name any only = only-append h (Made name ∷ []) only tt
 
   only_asked : (h : History) (name : List ℕ) → AnyName name → OnlyTo log h → OnlyTo log (h ++ Asked name ∷ [])
   only_asked h name any only = only-append h (Asked name ∷ []) only tt
@@ -188,15 +212,77 @@ only_log start (suc n) =
     AnyText
     tt
     AnyName
+    AnyName
     (only_text log)
-    (only_made log)
+    (only_made_too log)
     (only_asked log)
     start
     (chain start n)
-    (λ d is. tt)
+    (λ d is. any_fine d)
     (λ name is. tt)
     (chain_in start n)
     (only_log start n)
+
+-- ---- no other file is created
+
+module _ (log : List ℕ) where
+  abbrev IsLog : List ℕ → Type 0
+  IsLog q = q ≡ log
+
+  makes-append : (g h : History) → OnlyMakes log g → OnlyMakes log h → OnlyMakes log (g ++ h)
+  makes-append [] h first then = then
+  makes-append (Asked q ∷ g) h first then = makes-append g h first then
+  makes-append (Made q ∷ g) h first then = (first.0, makes-append g h first.1 then)
+  makes-append (Byte q b ∷ g) h first then = makes-append g h first then
+  makes-append (Shown b ∷ g) h first then = makes-append g h first then
+
+  makes-bytes_to : (bytes : List ℕ) → OnlyMakes log (bytes_to log bytes)
+  makes-bytes_to [] = tt
+  makes-bytes_to (b ∷ bytes) = makes-bytes_to bytes
+
+  makes-shown : (is : Bool) (bytes : List ℕ) → OnlyMakes log (entries_if is (shown bytes))
+  makes-shown false bytes = tt
+  makes-shown true [] = tt
+  makes-shown true (b ∷ bytes) = makes-shown true bytes
+
+  makes_text : (h : History) (text : List ℕ) (is : Bool) → AnyText is → OnlyMakes log h → OnlyMakes log (h ++ (bytes_to log text ++ entries_if is (shown text)))
+  makes_text h text is any only = makes-append h (bytes_to log text ++ entries_if is (shown text)) only (makes-append (bytes_to log text) (entries_if is (shown text)) (makes-bytes_to text) (makes-shown is text))
+
+  makes_made : (h : History) (q : List ℕ) → IsLog q → OnlyMakes log h → OnlyMakes log (h ++ Made q ∷ [])
+  makes_made h q is only = makes-append h (Made q ∷ []) only (is, tt)
+
+  makes_asked : (h : History) (q : List ℕ) → AnyName q → OnlyMakes log h → OnlyMakes log (h ++ Asked q ∷ [])
+  makes_asked h q any only = makes-append h (Asked q ∷ []) only tt
+
+  -- no turn creates a file: the log was there before the first one
+  turn_fine : (v : MouthState) (d : Deed) → (turn_of v).did ≡ Act d → Fine AnyText IsLog d
+  turn_fine v (Fresh who) is = tt
+  turn_fine v (Space who) is = tt
+  turn_fine v (Text text who) is = tt
+  turn_fine v (Error text line who) is = tt
+  turn_fine v (Create name) is = absurd (turn_makes_nothing v name is)
+
+pub only_made : (start : Start) (n : ℕ) → OnlyMakes (log_name start.job.name) (chain start n).trace
+unfolding chain opening file_made
+only_made start zero = (refl, tt)
+only_made start (suc n) =
+    let log = log_name start.job.name in
+    step_holds
+    log
+    (OnlyMakes log)
+    AnyText
+    tt
+    (IsLog log)
+    AnyName
+    (makes_text log)
+    (makes_made log)
+    (makes_asked log)
+    start
+    (chain start n)
+    (λ d is. turn_fine log (chain start n).mouth d is)
+    (λ name is. tt)
+    (chain_in start n)
+    (only_made start n)
 
 -- ---- no other file is asked for
 
@@ -294,8 +380,8 @@ module _ (name : List ℕ) where
   asks_text : (log : List ℕ) (h : History) (text : List ℕ) (is : Bool) → AnyText is → OnlyAsks name h → OnlyAsks name (h ++ (bytes_to log text ++ entries_if is (shown text)))
   asks_text log h text is any only = asks-append h (bytes_to log text ++ entries_if is (shown text)) only (asks-append (bytes_to log text) (entries_if is (shown text)) (asks-bytes_to log text) (asks-shown is text))
 
-  asks_made : (h : History) (q : List ℕ) → OnlyAsks name h → OnlyAsks name (h ++ Made q ∷ [])
-  asks_made h q only = asks-append h (Made q ∷ []) only tt
+  asks_made : (h : History) (q : List ℕ) → AnyName q → OnlyAsks name h → OnlyAsks name (h ++ Made q ∷ [])
+  asks_made h q any only = asks-append h (Made q ∷ []) only tt
 
   asks_asked : (h : History) (q : List ℕ) → Is q → OnlyAsks name h → OnlyAsks name (h ++ Asked q ∷ [])
   asks_asked h q is only = asks-append h (Asked q ∷ []) only (is, tt)
@@ -311,13 +397,14 @@ only_asks start (suc n) =
     (OnlyAsks name)
     AnyText
     tt
+    AnyName
     (Is name)
     (asks_text name log)
     (asks_made name)
     (asks_asked name)
     start
     (chain start n)
-    (λ d is. tt)
+    (λ d is. any_fine d)
     (λ q is. turn_asks_for name (chain start n).mouth q (chain_named start n) is)
     (chain_in start n)
     (only_asks start n)

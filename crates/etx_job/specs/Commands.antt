@@ -1,10 +1,8 @@
 -- The rows of main control: what each command begins in vertical mode ("TeX: The Program", sections 1029 to 1069 and 1264 to 1279),
 -- and what it does with a text.
-use Rattle.std.specs.Prelude.{ℕ, ◌==◌, List, ◌++◌, Option, Some, None, codes, if◌then◌else◌}
+use Rattle.std.specs.Prelude.{ℕ, true, false, ◌==◌, List, ◌++◌, Option, Some, None, codes, if◌then◌else◌}
 use Rattle.etx_matter.specs.declared.token.Token.{Token}
 use Rattle.etx_matter.specs.declared.token.Token.TheVariants as token
-use Rattle.etx_matter.specs.declared.deed.Audience.TheVariants.{LogAndTerminal}
-use Rattle.etx_matter.specs.declared.deed.Deed.TheVariants as deed
 use Rattle.etx_matter.specs.declared.end.End.TheVariants.{Ended, Unbuilt, Capacity}
 use Rattle.etx_matter.specs.declared.end.Limit.TheVariants.{Groups}
 use Rattle.etx_prims.specs.declared.command.Primitive.{Primitive}
@@ -36,8 +34,9 @@ use Rattle.etx_expand.specs.declared.plan.Then.TheVariants as afterwards
 use Rattle.etx_expand.specs.Answers.{Begun, Finished, begun, starting, nothing, start_ends, start_fails, start_fails_under, insert_of}
 use Rattle.etx_expand.specs.Printing.{escape_in, printed, said_text}
 use Rattle.etx_expand.specs.Texts.{text_for}
-use Rattle.etx_expand.specs.Turn.{expanded}
-use Rattle.etx_assign.specs.Assignments.{no_prefixes, with_prefix, is_assignment}
+use Rattle.etx_expand.specs.Expanding.{expansion_begun}
+use Rattle.etx_assign.specs.Assignments.{no_prefixes, with_prefix, is_assignment, is_global_in}
+use Rattle.etx_assign.specs.Values.{register_begun}
 use Rattle.etx_assign.specs.Prefixes.{prefix_scan, assignment_begun}
 use Rattle.etx_job.specs.declared.commands.Command.{Command}
 use Rattle.etx_job.specs.declared.commands.Command.TheVariants as command
@@ -103,12 +102,12 @@ after_row afters.Group = scan_begun (scan.Assign assign.AfterGroup)
 after_row afters.Assignment = scan_begun (scan.Assign assign.AfterAssignment)
 
 abbrev pub message_row : MessageKind → Token → Start
-message_row messages.Message t = scan_begun (scan.Text (text_for t) (finish.Control takes.Message))
+message_row messages.Message t = scan_begun (scan.Text (text_for t true) (finish.Control takes.Message))
 message_row messages.Error t = start_ends Unbuilt
 
 -- an assignment, or what is still to come
-abbrev pub other_row : Primitive → RestState → Start
-other_row p r = if is_assignment p then assignment_begun p no_prefixes r.values else start_ends Unbuilt
+abbrev pub other_row : Primitive → Token → RestState → Begun
+other_row p t r = beginning (if is_assignment p then assignment_begun p t no_prefixes r.values else start_ends Unbuilt) r
 
 -- what main control does at a primitive, by families
 unfoldable pub command_of : Primitive → Command
@@ -133,22 +132,25 @@ command_begun (command.After kind) p t r = beginning (after_row kind) r
 command_begun command.IgnoreSpaces p t r = beginning (scan_begun (scan.Control control.IgnoreSpaces)) r
 command_begun (command.Message kind) p t r = beginning (message_row kind t) r
 command_begun (command.Prefix kind) p t r = beginning (scan_begun (prefix_scan (with_prefix kind no_prefixes))) r
-command_begun command.Other p t r = beginning (other_row p r) r
+command_begun command.Other p t r = other_row p t r
 
 abbrev pub primitive_row : Primitive → Token → RestState → Begun
 primitive_row p t r = command_begun (command_of p) p t r
 
 -- What a token begins. (What is expandable is expanded before it comes here; if it came, it would be expanded here.)
-unfoldable pub command_row : Token → Meaning → RestState → Begun
-command_row t (means.Char code cat) r = character_row cat r
-command_row t (means.Primitive p) r = primitive_row p t r
-command_row t means.Unexpanded r = begun r nothing
-command_row t means.EndTemplate r = beginning (start_ends Unbuilt) r
-command_row t means.Undefined r = expanded expandable.Undefined t r
-command_row t (means.Macro m) r = expanded (expandable.Call m) t r
+unfoldable pub command_row : Token → Meaning → ℕ → RestState → Begun
+command_row t (means.Char code cat) line r = character_row cat r
+command_row t (means.Primitive p) line r = primitive_row p t r
+command_row t means.Unexpanded line r = begun r nothing
+command_row t means.EndTemplate line r = beginning (start_ends Unbuilt) r
+command_row t (means.CharGiven code) line r = beginning (start_ends Unbuilt) r
+command_row t (means.MathGiven code) line r = beginning (start_ends Unbuilt) r
+command_row t (means.Register kind number) line r = beginning (register_begun kind number t (is_global_in r.values false)) r
+command_row t means.Undefined line r = expansion_begun expandable.Undefined t line r
+command_row t (means.Macro m) line r = expansion_begun (expandable.Call m) t line r
 
 -- ---- texts
 
 -- \message: a space that parts the text from what stands on the line, and then the text
 unfoldable pub text_taken : ControlText → List Token → RestState → Finished
-text_taken takes.Message ts r = record { rest = r; ended = record { then = afterwards.Say (said_text r ts); did = did.Deed (deed.Space LogAndTerminal) } }
+text_taken takes.Message ts r = record { rest = r; ended = record { then = afterwards.Say (said_text r ts); did = did.Space } }

@@ -1,9 +1,9 @@
 -- Scans that gather tokens, many at once: such a scan is on top of the stack, and the innermost level is a list of fresh tokens.
 -- The proofs need these words; nothing that is promised stands here.
-use Rattle.std.specs.Prelude.{◌≡◌, ℕ, zero, suc, ◌+◌, false, List, ◌∷◌, ◌++◌, drop, take, None}
+use Rattle.std.specs.Prelude.{◌≡◌, ℕ, zero, suc, ◌+◌, false, List, ◌∷◌, ◌++◌, drop, None}
 use Rattle.etx_matter.specs.declared.token.Token.{Token}
 use Rattle.etx_input.specs.Levels.{InputState}
-use Rattle.etx_input.specs.Runs.{fresh_in, skipped}
+use Rattle.etx_input.specs.Runs.{skipped}
 use Rattle.etx_macros.specs.declared.mark.Brace.{Brace}
 use Rattle.etx_macros.specs.declared.mark.Brace.TheVariants.{Left, Right, Neither}
 use Rattle.etx_macros.specs.Marks.{brace_of}

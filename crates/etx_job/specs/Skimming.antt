@@ -26,6 +26,9 @@ IsIdle (means.Char code cat) = cat ≡ 10
 IsIdle (means.Macro m) = ⊥
 IsIdle means.Unexpanded = Unit {0}
 IsIdle means.EndTemplate = ⊥
+IsIdle (means.CharGiven code) = ⊥
+IsIdle (means.MathGiven code) = ⊥
+IsIdle (means.Register kind number) = ⊥
 
 -- so many tokens at the beginning are such tokens
 abbrev pub AreIdle : Values → ℕ → List Token → Type 0
@@ -45,6 +48,9 @@ plain_body (means.Char code cat) = None
 plain_body (means.Macro d) = if is_plain d.parts then Some d.body else None
 plain_body means.Unexpanded = None
 plain_body means.EndTemplate = None
+plain_body (means.CharGiven code) = None
+plain_body (means.MathGiven code) = None
+plain_body (means.Register kind number) = None
 
 -- a call of such a macro: its body is read next
 abbrev pub called : List Token → Mouth → Mouth
@@ -79,6 +85,6 @@ IsGlance mm glance.Other = Unit {0}
 -- nothing is done beside
 abbrev pub is_nothing : Did → Bool
 is_nothing did.Nothing = true
-is_nothing (did.Deed d) = false
+is_nothing did.Space = false
 is_nothing (did.Error f) = false
 is_nothing (did.End e) = false

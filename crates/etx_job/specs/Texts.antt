@@ -34,6 +34,14 @@ OnlyTo name (Made q ∷ h) = OnlyTo name h
 OnlyTo name (Byte q b ∷ h) = (q ≡ name) × OnlyTo name h
 OnlyTo name (Shown b ∷ h) = OnlyTo name h
 
+-- a history creates no file but this
+abbrev pub OnlyMakes : List ℕ → History → Type 0
+OnlyMakes name [] = Unit {0}
+OnlyMakes name (Asked q ∷ h) = OnlyMakes name h
+OnlyMakes name (Made q ∷ h) = (q ≡ name) × OnlyMakes name h
+OnlyMakes name (Byte q b ∷ h) = OnlyMakes name h
+OnlyMakes name (Shown b ∷ h) = OnlyMakes name h
+
 -- a history asks for no name but this
 abbrev pub OnlyAsks : List ℕ → History → Type 0
 OnlyAsks name [] = Unit {0}

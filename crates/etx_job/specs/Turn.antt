@@ -1,5 +1,6 @@
 -- One turn of the mouth of a job: it asks for the main file, and then its machine reads it.
 use Rattle.std.specs.Prelude.{ℕ, List, ◌++◌, codes}
+use Rattle.etx_outside.specs.Names.{job_name_of}
 use Rattle.etx_outside.specs.declared.tree.Loaded.{Loaded}
 use Rattle.etx_outside.specs.declared.tree.Loaded.TheVariants as loaded
 use Rattle.etx_matter.specs.declared.deed.Audience.TheVariants.{LogAndTerminal}
@@ -29,7 +30,7 @@ turned v did = record { now = v; did = did }
 
 -- the mouth of INITEX, which is to read the main file
 unfoldable pub first_mouth : List ℕ → MouthState
-first_mouth name = mouth_at (Unasked name) first_machine
+first_mouth name = mouth_at (Unasked name) (first_machine (job_name_of name))
 
 -- the number of the line that was read last, or 0
 unfoldable pub line_number_of : MouthState → ℕ

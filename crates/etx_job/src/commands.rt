@@ -4,14 +4,14 @@ ghost use Rattle.etx_state.specs.Rests.{rest_of, Keeps};
 ghost use Rattle.etx_expand.specs.Answers.{nothing, start_fails};
 ghost use Rattle.etx_job.specs.Commands.{group_begun, group_ended, naming, right_brace_row, missing_brace, end_group_row, group_row, character_row, after_row, message_row, other_row, command_of, command_begun, primitive_row, command_row, text_taken};
 
-use etx_assign::{begin, is_assignment, no_prefixes, prefix_scan, with_prefix};
+use etx_assign::{begin, begin_register, is_assignment, no_prefixes, prefix_scan, with_prefix};
 use etx_expand::{
     Did, Ended, Expandable, Push, Start, Then, expansion_begun, insert_tokens, nothing,
     push_escaped, said_text, start_ends, start_fails, start_fails_under, starting, text_for,
 };
 use etx_groups::begin as begin_group;
 use etx_lists::Bytes;
-use etx_matter::{Audience, Boxed, Deed, End, Limit, Token, Tokens};
+use etx_matter::{Boxed, End, Limit, Token, Tokens};
 use etx_prims::{AfterKind, GroupEdge, MessageKind, PrefixKind, Primitive};
 use etx_state::{
     AssignScan, ControlScan, ControlText, GroupKind, MOST_GROUPS, Meaning, Rest, Scan, TextFinish,
@@ -159,7 +159,7 @@ fn message_row(alloc: Global, kind: MessageKind, token: Token) -> Result<Start, 
 {
     match kind {
         MessageKind::Message => Ok(starting(Push::Begin(Scan::Text {
-            text: Boxed::new(alloc, text_for(alloc, token))?,
+            text: Boxed::new(alloc, text_for(alloc, token, true))?,
             finish: TextFinish::Control(ControlText::Message),
         }))),
         MessageKind::Error => Ok(start_ends(End::Unbuilt)),
@@ -167,11 +167,11 @@ fn message_row(alloc: Global, kind: MessageKind, token: Token) -> Result<Start, 
 }
 
 /// An assignment, or what is still to come.
-fn other_row(rest: &Rest, primitive: Primitive) -> Result<Start, AllocError>
-    ensures { IfOk result (λ start. start ≡ other_row primitive (rest_of rest.now)) }
+fn other_row(rest: &Rest, primitive: Primitive, token: Token) -> Result<Start, AllocError>
+    ensures { IfOk result (λ start. start ≡ (other_row primitive token (rest_of rest.now)).start) }
 {
     if is_assignment(primitive) {
-        begin(rest, primitive, no_prefixes())
+        begin(rest, primitive, token, no_prefixes())
     } else {
         Ok(start_ends(End::Unbuilt))
     }
@@ -222,7 +222,7 @@ fn command_begun(
             kind,
             no_prefixes(),
         ))))),
-        Command::Other => other_row(rest, primitive),
+        Command::Other => other_row(rest, primitive, token),
     }
 }
 
@@ -238,11 +238,12 @@ fn primitive_row(rest: &mut Rest, primitive: Primitive, token: Token) -> Result<
 #[tactic(auto, unfolding(crate::specs::Commands::command_row))]
 pub(crate) fn command_row(
     rest: &mut Rest,
+    line: u32,
     token: Token,
     meaning: Meaning,
 ) -> Result<Start, AllocError>
-    ensures rest { OnOk result (rest_of rest.new ≡ (command_row token meaning (rest_of rest.old)).rest) }
-    ensures start { IfOk result (λ start. start ≡ (command_row token meaning (rest_of rest.old)).start) }
+    ensures rest { OnOk result (rest_of rest.new ≡ (command_row token meaning line (rest_of rest.old)).rest) }
+    ensures start { IfOk result (λ start. start ≡ (command_row token meaning line (rest_of rest.old)).start) }
     ensures kept { Keeps rest.old rest.new }
 {
     match meaning {
@@ -250,8 +251,11 @@ pub(crate) fn command_row(
         Meaning::Primitive(primitive) => primitive_row(rest, primitive, token),
         Meaning::Unexpanded => Ok(starting(nothing())),
         Meaning::EndTemplate => Ok(start_ends(End::Unbuilt)),
-        Meaning::Undefined => expansion_begun(rest.alloc(), Expandable::Undefined, token),
-        Meaning::Macro(made) => expansion_begun(rest.alloc(), Expandable::Call(made), token),
+        Meaning::CharGiven(_) => Ok(start_ends(End::Unbuilt)),
+        Meaning::MathGiven(_) => Ok(start_ends(End::Unbuilt)),
+        Meaning::Register { kind, number } => begin_register(rest, kind, number, token),
+        Meaning::Undefined => expansion_begun(rest, line, Expandable::Undefined, token),
+        Meaning::Macro(made) => expansion_begun(rest, line, Expandable::Call(made), token),
     }
 }
 
@@ -270,7 +274,7 @@ pub(crate) fn text_taken(
             let text = said_text(rest, tokens.as_slice())?;
             Ok(Ended {
                 then: Then::Say(text),
-                did: Did::Deed(Boxed::new(rest.alloc(), Deed::Space(Audience::LogAndTerminal))?),
+                did: Did::Space,
             })
         }
     }

@@ -6,7 +6,7 @@ ghost use Rattle.etx_job.specs.Mouths.{MouthState};
 ghost use Rattle.etx_job.specs.Runs.{Advances};
 ghost use Rattle.etx_job.specs.Chain.{Start, chain};
 ghost use Rattle.etx_job.specs.Words.{log_name};
-ghost use Rattle.etx_job.specs.Texts.{added_to, is_at_start, OnlyTo, OnlyAsks, AllTold};
+ghost use Rattle.etx_job.specs.Texts.{added_to, is_at_start, OnlyTo, OnlyMakes, OnlyAsks, AllTold};
 ghost use Rattle.etx_job.specs.Meaning.{Meaning, IsMeaning, IsMeaningOfJob, start_of};
 ghost use Rattle.etx_matter.specs.declared.end.Status.TheVariants.{Spent};
 ghost use Rattle.etx_job.specs.declared.yields.Halt.{Halt as Why};
@@ -41,8 +41,9 @@ pub fn the_log_is_what_was_said()
     ensures { (start : Start) (turns : ℕ) → AllTold start turns → added_to (log_name start.job.name) (chain start turns).trace ≡ said (chain start turns).trace }
 {}
 
-/// A job adds bytes to no file but its log, and asks for no file but the one that it was given.
+/// A job creates no file but its log and adds bytes to no other, and asks for no file but the one that it was given.
 pub fn a_job_keeps_to_its_files()
+    ensures made { (start : Start) (turns : ℕ) → OnlyMakes (log_name start.job.name) (chain start turns).trace }
     ensures written { (start : Start) (turns : ℕ) → OnlyTo (log_name start.job.name) (chain start turns).trace }
     ensures asked { (start : Start) (turns : ℕ) → OnlyAsks start.job.name (chain start turns).trace }
 {}

@@ -1,18 +1,21 @@
 //! One turn of the machine: what stands on top of the stack, or main control, gets a token or a value, by owner.
 ghost use Rattle.std.specs.Prelude.{◌≡◌, OnOk, IfOk};
 ghost use Rattle.etx_state.specs.Mouths.{mouth_of};
-ghost use Rattle.etx_job.specs.Machine.{command_turn, main_idle, main_with, main_turn, behind_spaces, control_token, control_text_turn, scan_token, scan_with, scan_turn, value_turn, kept_turn, entry_turn, stack_turn, fitting, machine_turn};
+ghost use Rattle.etx_job.specs.Machine.{no_word, word_kept, word_idle, word_token, word_entry_turn, amount_turn, command_turn, main_idle, main_with, main_turn, behind_spaces, control_token, control_text_turn, scan_token, scan_with, scan_turn, value_turn, kept_turn, entry_turn, stack_turn, fitting, machine_turn};
 
 use crate::commands::{command_row, text_taken};
-use etx_assign::{future, number, scan};
+use etx_assign::{future, number, scan, text, word};
 use etx_expand::{
-    Fetched, Idle, Move, Turned, begin, do_alone, error_deed, expand_token, fetch_command,
-    fetch_for, follow, go_idle, has_category, make, quiet, take_expansion, take_number, take_text,
-    turn_due, turn_expand_after, turn_say,
+    Fetched, Idle, Move, Then, Turned, WordPlan, begin, do_alone, enter, error_deed, expand_token,
+    fetch_command, fetch_for, finished, follow, go_idle, has_category, make, make_word, quiet,
+    take_expansion, take_number, take_number_word, take_text, turn_due, turn_expand_after,
+    turn_number, turn_outer, turn_say, turn_text,
 };
-use etx_matter::{End, Limit, Token, Tokens};
+use etx_exprs::Value as Quantity;
+use etx_matter::{Boxed, End, GlueOrder, Limit, Token, Tokens};
 use etx_state::{
-    ControlScan, ControlText, Entry, Keeper, Meaning, NumberFinish, Scan, State, TextFinish, Value,
+    ControlScan, ControlText, Entry, Keeper, Meaning, NumberFinish, Scan, State, Taker, TextFinish,
+    Value,
 };
 use std::alloc::AllocError;
 
@@ -24,7 +27,8 @@ fn turn_command(s: &mut State, token: Token, meaning: Meaning) -> Result<Turned,
     ensures now { OnOk result (mouth_of s.new ≡ (command_turn token meaning (mouth_of s.old)).now) }
     ensures turned { IfOk result (λ t. t ≡ (command_turn token meaning (mouth_of s.old)).turned) }
 {
-    let start = command_row(&mut s.rest, token, meaning)?;
+    let line = s.input.line();
+    let start = command_row(&mut s.rest, line, token, meaning)?;
     begin(s, token, start)
 }
 
@@ -111,10 +115,9 @@ fn take_token(
 {
     match waits {
         Scan::Expansion(waits) => take_expansion(s, left, waits, token, &meaning),
-        Scan::Number {
-            scan: waits,
-            finish,
-        } => take_number(s, left, waits, finish, token, &meaning),
+        Scan::Number { scan: waits, taker } => {
+            take_number(s, left, waits, taker, token, &meaning)
+        }
         Scan::Text { text, finish } => take_text(s, left, text, finish, token, &meaning),
         Scan::Assign(waits) => scan(s, left, waits, token, meaning),
         Scan::Control(waits) => take_control(s, left, waits, token, meaning),
@@ -146,17 +149,45 @@ fn turn_scan(s: &mut State, left: u8, waits: Scan) -> Result<Turned, AllocError>
     take_fetched(s, left, waits, fetched)
 }
 
+/// A number goes to the outer scan that waits for it, or else to its finisher: a line for each owner.
+#[tactic(auto, unfolding(crate::specs::Machine::amount_turn))]
+fn turn_amount(
+    s: &mut State,
+    left: u8,
+    amount: Quantity,
+    order: GlueOrder,
+    mut taker: Boxed<Taker>,
+) -> Result<Turned, AllocError>
+    ensures now { OnOk result (mouth_of s.new ≡ (amount_turn left amount order taker (mouth_of s.old)).now) }
+    ensures turned { IfOk result (λ t. t ≡ (amount_turn left amount order taker (mouth_of s.old)).turned) }
+{
+    match taker.get_mut().outers.pop() {
+        Some(outer) => turn_outer(s, left, outer, taker, amount, order),
+        None => match taker.get().finish {
+            NumberFinish::Expansion(finish) => turn_number(s, left, finish, amount),
+            NumberFinish::Assign(finish) => number(s, left, finish, amount),
+        },
+    }
+}
+
 /// A line for each owner of values.
 fn turn_value(s: &mut State, left: u8, value: Value) -> Result<Turned, AllocError>
     ensures now { OnOk result (mouth_of s.new ≡ (value_turn left value (mouth_of s.old)).now) }
     ensures turned { IfOk result (λ t. t ≡ (value_turn left value (mouth_of s.old)).turned) }
 {
     match value {
-        Value::Number { number: n, finish } => match finish {
-            NumberFinish::Assign(taker) => number(s, left, taker, n),
-        },
-        Value::Text { text, finish } => match finish {
-            TextFinish::Control(taker) => turn_control_text(s, left, taker, text.get()),
+        Value::Number {
+            amount,
+            order,
+            taker,
+        } => turn_amount(s, left, amount, order, taker),
+        Value::Text {
+            text: tokens,
+            finish,
+        } => match finish {
+            TextFinish::Expansion(taker) => turn_text(s, left, taker, tokens),
+            TextFinish::Assign(taker) => text(s, left, taker, tokens),
+            TextFinish::Control(taker) => turn_control_text(s, left, taker, tokens.get()),
         },
     }
 }
@@ -171,6 +202,105 @@ fn turn_kept(s: &mut State, kept: Token, by: Keeper) -> Result<Turned, AllocErro
     }
 }
 
+/// A scan that reads a word stands on the stack again with its letters.
+fn keep_word(s: &mut State, left: u8, letters: Boxed<Tokens>, scan: Scan) -> Result<(), AllocError>
+    ensures { OnOk result (mouth_of s.new ≡ word_kept left letters scan (mouth_of s.old)) }
+{
+    enter(
+        s,
+        Entry::Word {
+            left,
+            letters,
+            scan,
+        },
+    )
+}
+
+/// No token comes to a word.
+fn word_idle(
+    s: &mut State,
+    left: u8,
+    letters: Boxed<Tokens>,
+    waits: Scan,
+    idle: Idle,
+) -> Result<Turned, AllocError>
+    ensures now { OnOk result (mouth_of s.new ≡ (word_idle left letters waits idle (mouth_of s.old)).now) }
+    ensures turned { IfOk result (λ t. t ≡ (word_idle left letters waits idle (mouth_of s.old)).turned) }
+{
+    match idle {
+        Idle::Expands { token, what } => {
+            keep_word(s, left, letters, waits)?;
+            expand_token(s, what, token)
+        }
+        Idle::Over(did) => {
+            let turned = do_alone(s, did)?;
+            keep_word(s, left, letters, waits)?;
+            Ok(turned)
+        }
+        Idle::Cut(text) => {
+            let turned = error_deed(s, text)?;
+            keep_word(s, left, letters, waits)?;
+            Ok(turned)
+        }
+    }
+}
+
+/// A word gets a token: a line for each owner.
+fn word_token(
+    s: &mut State,
+    left: u8,
+    letters: Boxed<Tokens>,
+    waits: Scan,
+    token: Token,
+) -> Result<Turned, AllocError>
+    ensures now { OnOk result (mouth_of s.new ≡ (word_token left letters waits token (mouth_of s.old)).now) }
+    ensures turned { IfOk result (λ t. t ≡ (word_token left letters waits token (mouth_of s.old)).turned) }
+{
+    match waits {
+        Scan::Number { scan: waits, taker } => {
+            take_number_word(s, left, waits, taker, letters, token)
+        }
+        Scan::Assign(waits) => word(s, left, waits, letters, token),
+        Scan::Expansion(waits) => no_word(s, left, letters, Scan::Expansion(waits), token),
+        Scan::Text { text, finish } => {
+            no_word(s, left, letters, Scan::Text { text, finish }, token)
+        }
+        Scan::Control(waits) => no_word(s, left, letters, Scan::Control(waits), token),
+    }
+}
+
+/// A scan that reads no words goes on behind the letters. (No letters are kept for it.)
+fn no_word(
+    s: &mut State,
+    left: u8,
+    letters: Boxed<Tokens>,
+    waits: Scan,
+    token: Token,
+) -> Result<Turned, AllocError>
+    ensures now { OnOk result (mouth_of s.new ≡ (no_word left letters waits token (mouth_of s.old)).now) }
+    ensures turned { IfOk result (λ t. t ≡ (no_word left letters waits token (mouth_of s.old)).turned) }
+{
+    let plan = WordPlan::Lost(finished(Then::More(waits)));
+    make_word(s, left, letters, token, plan)
+}
+
+/// A scan that reads a word waits for a token.
+#[tactic(auto, unfolding(crate::specs::Machine::word_entry_turn))]
+fn turn_word(
+    s: &mut State,
+    left: u8,
+    letters: Boxed<Tokens>,
+    waits: Scan,
+) -> Result<Turned, AllocError>
+    ensures now { OnOk result (mouth_of s.new ≡ (word_entry_turn left letters waits (mouth_of s.old)).now) }
+    ensures turned { IfOk result (λ t. t ≡ (word_entry_turn left letters waits (mouth_of s.old)).turned) }
+{
+    match fetch_for(s, &waits)? {
+        Fetched::Token { token, .. } => word_token(s, left, letters, waits, token),
+        Fetched::Idle(why) => word_idle(s, left, letters, waits, why),
+    }
+}
+
 fn turn_entry(s: &mut State, entry: Entry) -> Result<Turned, AllocError>
     ensures now { OnOk result (mouth_of s.new ≡ (entry_turn entry (mouth_of s.old)).now) }
     ensures turned { IfOk result (λ t. t ≡ (entry_turn entry (mouth_of s.old)).turned) }
@@ -181,6 +311,11 @@ fn turn_entry(s: &mut State, entry: Entry) -> Result<Turned, AllocError>
         Entry::Kept { token, by } => turn_kept(s, token, by),
         Entry::Due(token) => turn_due(s, token),
         Entry::Say(text) => turn_say(s, text),
+        Entry::Word {
+            left,
+            letters,
+            scan: waits,
+        } => turn_word(s, left, letters, waits),
     }
 }
 

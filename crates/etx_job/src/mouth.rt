@@ -19,6 +19,7 @@ use etx_input::FileInput;
 use etx_lists::Bytes;
 use etx_matter::{Audience, Deed, End, FatalError, Job};
 use etx_outside::Loaded;
+use etx_outside::names::job_name;
 use etx_state::State;
 use std::alloc::{AllocError, Global};
 use std::marker::Model;
@@ -151,7 +152,7 @@ impl Mouth {
     pub fn new(alloc: Global, job: Job) -> Result<Mouth, AllocError>
         ensures { IfOk result (λ mouth. state_of mouth ≡ first_mouth job.name) }
     {
-        let state = State::open(alloc, &job)?;
+        let state = State::open(alloc, job_name(job.name()))?;
         Ok(Mouth::before_file(job.into_name(), state))
     }
 

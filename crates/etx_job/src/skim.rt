@@ -55,6 +55,9 @@ fn is_idle_meaning(meaning: &Meaning) -> bool
         Meaning::Macro(_) => false,
         Meaning::Unexpanded => true,
         Meaning::EndTemplate => false,
+        Meaning::CharGiven(_) => false,
+        Meaning::MathGiven(_) => false,
+        Meaning::Register { .. } => false,
     }
 }
 
@@ -179,6 +182,9 @@ fn look_at_meaning(meaning: &Meaning) -> Result<Glance, AllocError>
         Meaning::Macro(definition) => look_at_macro(definition),
         Meaning::Unexpanded => Ok(Glance::Idle),
         Meaning::EndTemplate => Ok(Glance::Other),
+        Meaning::CharGiven(_) => Ok(Glance::Other),
+        Meaning::MathGiven(_) => Ok(Glance::Other),
+        Meaning::Register { .. } => Ok(Glance::Other),
     }
 }
 

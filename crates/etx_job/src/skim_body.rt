@@ -35,6 +35,9 @@ fn is_copied(meaning: &Meaning) -> bool
         Meaning::Macro(definition) => !definition.is_outer(),
         Meaning::Unexpanded => true,
         Meaning::EndTemplate => true,
+        Meaning::CharGiven(_) => true,
+        Meaning::MathGiven(_) => true,
+        Meaning::Register { .. } => true,
     }
 }
 

@@ -23,7 +23,7 @@ fn is_quiet(did: &Did) -> bool
 {
     match did {
         Did::Nothing => true,
-        Did::Deed(_) => false,
+        Did::Space => false,
         Did::Error(_) => false,
         Did::End(_) => false,
     }
@@ -47,7 +47,8 @@ pub(crate) fn skim_command(
     if s.spent == budget {
         return Ok(());
     }
-    let start = command_row(&mut s.rest, token, meaning)?;
+    let line = s.input.line();
+    let start = command_row(&mut s.rest, line, token, meaning)?;
     if !is_quiet(&start.did) {
         return Ok(());
     }

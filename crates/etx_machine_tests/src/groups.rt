@@ -28,14 +28,28 @@ fn is_full(rest: &mut Rest) -> bool {
     )
 }
 
+/// Whether the parameter may have this number, and it was assigned.
+fn sets_one(rest: &mut Rest, param: IntParam, number: i32) -> bool {
+    let key = Key::Int(param);
+    let value = Val::Int(number);
+    if !value.fits(key) {
+        return false;
+    }
+    assign(rest, key, value).is_ok()
+}
+
 /// Two local assignments.
 fn sets(rest: &mut Rest, tolerance: i32, mag: i32) -> bool {
-    assign(rest, Key::Int(IntParam::Tolerance), Val::Int(tolerance)).is_ok()
-        && assign(rest, Key::Int(IntParam::Mag), Val::Int(mag)).is_ok()
+    sets_one(rest, IntParam::Tolerance, tolerance) && sets_one(rest, IntParam::Mag, mag)
 }
 
 fn sets_globally(rest: &mut Rest, mag: i32) -> bool {
-    assign_global(rest, Key::Int(IntParam::Mag), Val::Int(mag)).is_ok()
+    let key = Key::Int(IntParam::Mag);
+    let value = Val::Int(mag);
+    if !value.fits(key) {
+        return false;
+    }
+    assign_global(rest, key, value).is_ok()
 }
 
 /// Whether the parameters have these values.
@@ -73,7 +87,7 @@ fn ends_both(rest: &mut Rest) -> bool {
 
 #[test]
 fn ends_give_back_in_order(rt: HostRuntime) -> Result<(), Fail> {
-    let mut rest = Rest::open(rt.alloc())?;
+    let mut rest = Rest::open(rt.alloc(), b"job")?;
     assert!(rt; sets_in_two_groups(&mut rest) && notes_two(&mut rest));
     assert!(rt; ends_both(&mut rest));
     Ok(())
@@ -101,7 +115,7 @@ fn unnests(rest: &mut Rest, depth: u32) -> bool {
 
 #[test]
 fn ten_thousand_groups_and_one_more(rt: HostRuntime) -> Result<(), Fail> {
-    let mut rest = Rest::open(rt.alloc())?;
+    let mut rest = Rest::open(rt.alloc(), b"job")?;
     assert!(rt; nests(&mut rest, 10_000) && rest.level() == 10_000);
     assert!(rt; is_full(&mut rest) && rest.level() == 10_000);
     assert!(rt; Limit::Groups.text() == b"groups=10000".as_slice());

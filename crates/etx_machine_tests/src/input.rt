@@ -52,6 +52,7 @@ fn mark_of(origin: Origin) -> char {
         Origin::Fresh => '+',
         Origin::Back => '-',
         Origin::Unexpanded => '!',
+        Origin::Kept => '=',
     }
 }
 

@@ -3,7 +3,7 @@ use Rattle.std.specs.Prelude.{ℕ, List, codes}
 use Rattle.etx_matter.specs.declared.end.FatalError.{FatalError}
 use Rattle.etx_matter.specs.declared.end.FatalError.TheVariants.{NoLegalEnd, FileError}
 use Rattle.etx_matter.specs.declared.end.Limit.{Limit}
-use Rattle.etx_matter.specs.declared.end.Limit.TheVariants.{Names, Groups, InputLevels, Scans}
+use Rattle.etx_matter.specs.declared.end.Limit.TheVariants.{Names, Groups, InputLevels, Scans, Conditionals}
 use Rattle.etx_matter.specs.declared.end.Status.{Status}
 use Rattle.etx_matter.specs.declared.end.Status.TheVariants.{Clean, Errors, Stopped, Spent, Usage, ReadFault, WriteFault, OutOfMemory}
 
@@ -17,6 +17,7 @@ limit_text Names = codes "hash size=1048576"
 limit_text Groups = codes "groups=10000"
 limit_text InputLevels = codes "input stack size=10000"
 limit_text Scans = codes "scans=10000"
+limit_text Conditionals = codes "conditionals=10000"
 
 abbrev pub exit_status_of : Status → ℕ
 exit_status_of Clean = 0

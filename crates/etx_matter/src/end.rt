@@ -34,6 +34,8 @@ pub enum Limit {
     InputLevels,
     /// Scans in progress.
     Scans,
+    /// Open conditionals.
+    Conditionals,
 }
 
 impl Limit {
@@ -46,6 +48,7 @@ impl Limit {
             Limit::Groups => b"groups=10000",
             Limit::InputLevels => b"input stack size=10000",
             Limit::Scans => b"scans=10000",
+            Limit::Conditionals => b"conditionals=10000",
         }
     }
 }

@@ -1,178 +1,242 @@
--- The orders tell keys apart.
-use Rattle.std.proofs.Common.{◌≡◌, ℕ, zero, suc, List, [], ◌∷◌, true, refl, sym, ◌∙◌, ap, inl, inr, arith}
-use Rattle.std.specs.declared.cmp.Ordering.{Ordering}
-use Rattle.std.specs.declared.cmp.Ordering.TheVariants.{Less, Equal, Greater}
-use Rattle.std.specs.Ordering.{is_eq}
-use Rattle.std.specs.Cmp.{tied_itself}
-use Rattle.std.proofs.lemmas.Map.Lookups.{exact_unsigned, CmpEqualImpliesEq}
-use Rattle.std.proofs.lemmas.Map.Views.{tells_apart}
-use denote.Struct.Field.{Field}
-use denote.Struct.Values.{Values}
-use denote.Enum.Bare.{Bare}
-use denote.Enum.Declared.{Choice, values_one}
-use denote.Enum.Compared.{Each, by}
-use Rattle.etx_state.specs.declared.key.Key.{Key}
+-- No two keys have the same slot.
+use Rattle.std.proofs.Common.{◌≡◌, ℕ, zero, suc, ◌+◌, ◌*◌, ◌/◌, ◌%◌, ◌<◌, ◌≤◌, List, [], ◌∷◌, length, Option, Some, None, Bool, true, false, refl, sym, ◌∙◌, ap, subst, arith}
+use Rattle.std.specs.Prelude.{nat_lt, slice_get, if◌then◌else◌}
+use Rattle.std.specs.Option.{option_map, option_and_then}
+use Rattle.std.proofs.lemmas.Bool.{lt-ltb, le-ltb}
+use Rattle.std.proofs.lemmas.Bool.Decides.{nat_tests}
+use Rattle.etx_prims.specs.declared.quantities.RegisterKind.{RegisterKind}
+use Rattle.etx_prims.specs.declared.quantities.RegisterKind.TheVariants as registers
+use Rattle.etx_prims.specs.declared.quantities.CodeKind.{CodeKind}
+use Rattle.etx_prims.specs.declared.quantities.CodeKind.TheVariants as codes
+use Rattle.etx_prims.specs.declared.quantities.FontIntKind.{FontIntKind}
+use Rattle.etx_prims.specs.declared.quantities.FontIntKind.TheVariants as font_ints
+use Rattle.etx_prims.specs.declared.quantities.FamilyFontKind.{FamilyFontKind}
+use Rattle.etx_prims.specs.declared.quantities.FamilyFontKind.TheVariants as sizes
+use Rattle.etx_prims.specs.declared.expansion.MarkKind.{MarkKind}
+use Rattle.etx_prims.specs.declared.expansion.MarkKind.TheVariants as marks
+use Rattle.etx_keys.specs.declared.kind.Kind.{Kind}
+use Rattle.etx_keys.specs.declared.kind.Kind.TheVariants as kinds
+use Rattle.etx_keys.specs.declared.key.Key.{Key}
+use Rattle.etx_keys.specs.declared.key.Key.TheVariants as key
+use Rattle.etx_keys.specs.Families.{register_kind, code_kind, font_int_kind, family_font_kind, mark_kind, font_dimen_kind, font_dimen_at}
+use Rattle.etx_keys.specs.Kinds.{all_kinds, kind_number, kind_at}
+use Rattle.etx_keys.specs.Parameters.{int_at, dimen_at, glue_at, mu_glue_at, token_at}
+use Rattle.etx_keys.specs.Singles.{single_at}
+use Rattle.etx_keys.specs.Keys.{kind_of, at_of, number_of}
+use Rattle.etx_keys.proofs.Numbering.{int_back, dimen_back, glue_back, mu_glue_back, token_back}
+use Rattle.etx_keys.proofs.SingleNumbers.{single_back}
+use Rattle.etx_keys.proofs.KindNumbers.{kind_back}
 use Rattle.etx_undo.specs.declared.slot.Slot.{Slot}
-use Rattle.etx_prims.specs.declared.parameters.IntParam.{IntParam}
-use Rattle.etx_prims.specs.declared.parameters.IntParam.TheVariants as params
-use Rattle.etx_state.specs.declared.key.Key.TheVariants as keys
-use Rattle.etx_state.specs.contracts.key.Key as key
-use Rattle.etx_prims.specs.contracts.parameters.IntParam as param
-use Rattle.etx_prims.specs.contracts.parameters.IntParamOrd.TheImpl as ParamOrd
-use Rattle.etx_state.specs.contracts.key.KeyOrd.TheImpl as KeyOrd
-use Rattle.etx_state.specs.contracts.key.KeyOrd.TheImpl.Laws as KeyLaws
-use Rattle.etx_state.specs.Values.{same}
-use Rattle.etx_state.specs.Slots.{int_number, slot_of}
+use Rattle.etx_undo.proofs.Slots as slotted
+use Rattle.etx_state.specs.Slots.{slot_at, font_of, parameter_of, slot_of, same}
 
-abbrev EachExact : (Fss : List (List Field)) → Each Ordering Fss → Type 0
-EachExact [] each = Unit {0}
-EachExact (Fs ∷ Fss) each = ((x y : Values Fs) → each.0 x y ≡ Equal → x ≡ y) × EachExact Fss each.1
+-- ---- the key of a kind with a number, however great
 
-exact_by : (Fss : List (List Field)) (each : Each Ordering Fss) → EachExact Fss each → (c d : Choice Fss) → by Less Greater Fss each c d ≡ Equal → c ≡ d
-exact_by [] each exact c d e = absurd c
-exact_by (Fs ∷ Fss) each exact (inl x) (inl y) e = ap inl (exact.0 x y e)
-exact_by (Fs ∷ Fss) each exact (inl x) (inr d) e = cc
-exact_by (Fs ∷ Fss) each exact (inr c) (inl y) e = cc
-exact_by (Fs ∷ Fss) each exact (inr c) (inr d) e = ap inr (exact_by Fss each.1 exact.1 c d e)
+abbrev far_dimen : Bool → ℕ → Option Key
+far_dimen true at = Some (key.FontDimen at 0)
+far_dimen false at = Some (key.FontDimen (at % 256) (at / 256))
 
-bare_exact : (Fss : List (List Field)) → Bare Fss → (each : Each Ordering Fss) → EachExact Fss each
-bare_exact [] bare each = tt
-bare_exact ([] ∷ Fss) bare each = (λ x y e. refl, bare_exact Fss bare each.1)
-bare_exact ((F ∷ Fs) ∷ Fss) bare each = absurd bare
+key_at : Kind → ℕ → Option Key
+key_at kinds.Meaning at = Some (key.Meaning at)
+key_at kinds.Active at = Some (key.Active at)
+key_at kinds.IntParam at = option_map key.Int (int_at at)
+key_at kinds.DimenParam at = option_map key.Dimen (dimen_at at)
+key_at kinds.GlueParam at = option_map key.Glue (glue_at at)
+key_at kinds.MuGlueParam at = option_map key.MuGlue (mu_glue_at at)
+key_at kinds.TokenParam at = option_map key.Tokens (token_at at)
+key_at kinds.Count at = Some (key.Register registers.Count at)
+key_at kinds.Dimen at = Some (key.Register registers.Dimen at)
+key_at kinds.Skip at = Some (key.Register registers.Skip at)
+key_at kinds.MuSkip at = Some (key.Register registers.MuSkip at)
+key_at kinds.Toks at = Some (key.Register registers.Toks at)
+key_at kinds.Box at = Some (key.Box at)
+key_at kinds.CatCode at = Some (key.Code codes.Cat at)
+key_at kinds.MathCode at = Some (key.Code codes.Math at)
+key_at kinds.LcCode at = Some (key.Code codes.Lc at)
+key_at kinds.UcCode at = Some (key.Code codes.Uc at)
+key_at kinds.SfCode at = Some (key.Code codes.Sf at)
+key_at kinds.DelCode at = Some (key.Code codes.Del at)
+key_at kinds.HyphenChar at = Some (key.FontInt font_ints.HyphenChar at)
+key_at kinds.SkewChar at = Some (key.FontInt font_ints.SkewChar at)
+key_at kinds.TextFont at = Some (key.FamilyFont sizes.Text at)
+key_at kinds.ScriptFont at = Some (key.FamilyFont sizes.Script at)
+key_at kinds.ScriptScriptFont at = Some (key.FamilyFont sizes.ScriptScript at)
+key_at kinds.Slant at = Some (key.FontDimen at 1)
+key_at kinds.Space at = Some (key.FontDimen at 2)
+key_at kinds.SpaceStretch at = Some (key.FontDimen at 3)
+key_at kinds.SpaceShrink at = Some (key.FontDimen at 4)
+key_at kinds.XHeight at = Some (key.FontDimen at 5)
+key_at kinds.Quad at = Some (key.FontDimen at 6)
+key_at kinds.ExtraSpace at = Some (key.FontDimen at 7)
+key_at kinds.FontDimen at = far_dimen (nat_lt at 256) at
+key_at kinds.Single at = option_map key.Single (single_at at)
+key_at kinds.Font at = Some (key.Font at)
+key_at kinds.InStream at = Some (key.InStream at)
+key_at kinds.OutStream at = Some (key.OutStream at)
+key_at kinds.TopMark at = Some (key.Mark marks.Top at)
+key_at kinds.FirstMark at = Some (key.Mark marks.First at)
+key_at kinds.BottomMark at = Some (key.Mark marks.Bottom at)
+key_at kinds.SplitFirstMark at = Some (key.Mark marks.SplitFirst at)
+key_at kinds.SplitBottomMark at = Some (key.Mark marks.SplitBottom at)
 
-exact_param : CmpEqualImpliesEq (ParamOrd.ghosts).cmp
-exact_param x y e = values_one param.enum x y (exact_by param.enum.parts _ (bare_exact param.enum.parts tt _) (param.as_values x) (param.as_values y) e)
+register_back : (kind : RegisterKind) (number : ℕ) → key_at (register_kind kind) number ≡ Some (key.Register kind number)
+unfolding key_at
+register_back registers.Count number = refl
+register_back registers.Dimen number = refl
+register_back registers.Skip number = refl
+register_back registers.MuSkip number = refl
+register_back registers.Toks number = refl
 
-first : {A : Type 0} {x y : A × Unit {0}} → x.0 ≡ y.0 → x ≡ y
-first e = λ i. (e i, tt)
+code_back : (kind : CodeKind) (code : ℕ) → key_at (code_kind kind) code ≡ Some (key.Code kind code)
+unfolding key_at
+code_back codes.Cat code = refl
+code_back codes.Math code = refl
+code_back codes.Lc code = refl
+code_back codes.Uc code = refl
+code_back codes.Sf code = refl
+code_back codes.Del code = refl
 
--- a variant a line
-pub exact_key : CmpEqualImpliesEq (KeyOrd.ghosts).cmp
-exact_key x y e = values_one key.enum x y (exact_by key.enum.parts _ (
-  λ x y e. first (exact_unsigned x.0 y.0 e),
-  (
-    λ x y e. first (exact_unsigned x.0 y.0 e),
-    (
-      λ x y e. first (exact_unsigned x.0 y.0 e),
-      (
-        λ x y e. first (exact_param x.0 y.0 e),
-        (λ x y e. refl, tt),
-      ),
-    ),
-  ),
-) (key.as_values x) (key.as_values y) e)
+font_int_back : (kind : FontIntKind) (font : ℕ) → key_at (font_int_kind kind) font ≡ Some (key.FontInt kind font)
+unfolding key_at
+font_int_back font_ints.HyphenChar font = refl
+font_int_back font_ints.SkewChar font = refl
 
-pub same_is : (k q : Key) → same k q ≡ true → k ≡ q
-same_is k q e = tells_apart exact_key k q e
+family_font_back : (size : FamilyFontKind) (family : ℕ) → key_at (family_font_kind size) family ≡ Some (key.FamilyFont size family)
+unfolding key_at
+family_font_back sizes.Text family = refl
+family_font_back sizes.Script family = refl
+family_font_back sizes.ScriptScript family = refl
 
-pub same_self : (k : Key) → same k k ≡ true
-same_self k = ap is_eq (tied_itself KeyLaws.total-law k)
+mark_back : (kind : MarkKind) (class : ℕ) → key_at (mark_kind kind) class ≡ Some (key.Mark kind class)
+unfolding key_at
+mark_back marks.Top class = refl
+mark_back marks.First class = refl
+mark_back marks.Bottom class = refl
+mark_back marks.SplitFirst class = refl
+mark_back marks.SplitBottom class = refl
 
--- a parameter's number is its place in the enum, and tells the parameter
+two : (font parameter : ℕ) → font < 256 → ((256 * parameter + font) % 256 ≡ font) × ((256 * parameter + font) / 256 ≡ parameter)
+two font parameter low = (omega (arith, low), omega (arith, low))
 
-abbrev index : (Fss : List (List Field)) → Choice Fss → ℕ
-index [] c = zero
-index (Fs ∷ Fss) (inl x) = zero
-index (Fs ∷ Fss) (inr c) = suc (index Fss c)
+far_back : (font parameter : ℕ) → font < 256 → 8 ≤ parameter → key_at kinds.FontDimen (256 * parameter + font) ≡ Some (key.FontDimen font parameter)
+unfolding key_at
+far_back font parameter low high =
+    let it = two font parameter low in
+    rw (le-ltb (256 * parameter + font) 256 (omega (arith, high)), it.0, it.1) refl
 
-index_one : (Fss : List (List Field)) → Bare Fss → (c d : Choice Fss) → index Fss c ≡ index Fss d → c ≡ d
-index_one [] bare c d e = absurd c
-index_one ([] ∷ Fss) bare (inl x) (inl y) e = refl
-index_one ([] ∷ Fss) bare (inl x) (inr d) e = absurd (omega (arith, e))
-index_one ([] ∷ Fss) bare (inr c) (inl y) e = absurd (omega (arith, e))
-index_one ([] ∷ Fss) bare (inr c) (inr d) e = ap inr (index_one Fss bare c d (omega (arith, e)))
-index_one ((F ∷ Fs) ∷ Fss) bare c d e = absurd bare
+font_dimen_back : (font parameter : ℕ) → font < 256 → key_at (font_dimen_kind parameter) (font_dimen_at font parameter) ≡ Some (key.FontDimen font parameter)
+unfolding key_at
+font_dimen_back font zero low = rw (lt-ltb font 256 low) refl
+font_dimen_back font (suc zero) low = refl
+font_dimen_back font (suc (suc zero)) low = refl
+font_dimen_back font (suc (suc (suc zero))) low = refl
+font_dimen_back font (suc (suc (suc (suc zero)))) low = refl
+font_dimen_back font (suc (suc (suc (suc (suc zero))))) low = refl
+font_dimen_back font (suc (suc (suc (suc (suc (suc zero)))))) low = refl
+font_dimen_back font (suc (suc (suc (suc (suc (suc (suc zero))))))) low = refl
+font_dimen_back font (suc (suc (suc (suc (suc (suc (suc (suc parameter)))))))) low =
+    let high : 8 ≤ suc (suc (suc (suc (suc (suc (suc (suc parameter))))))) = omega arith in
+    let e : font_dimen_at font (suc (suc (suc (suc (suc (suc (suc (suc parameter)))))))) ≡ 256 * (suc (suc (suc (suc (suc (suc (suc (suc parameter)))))))) + font =
+    rw (le-ltb (suc (suc (suc (suc (suc (suc (suc (suc parameter)))))))) 8 high) refl in
+    rw e (far_back font (suc (suc (suc (suc (suc (suc (suc (suc parameter)))))))) low high)
 
-number_index : (p : IntParam) → int_number p ≡ index param.enum.parts (param.as_values p)
-number_index params.Pretolerance = refl
-number_index params.Tolerance = refl
-number_index params.LinePenalty = refl
-number_index params.HyphenPenalty = refl
-number_index params.ExHyphenPenalty = refl
-number_index params.ClubPenalty = refl
-number_index params.WidowPenalty = refl
-number_index params.DisplayWidowPenalty = refl
-number_index params.BrokenPenalty = refl
-number_index params.BinOpPenalty = refl
-number_index params.RelPenalty = refl
-number_index params.PreDisplayPenalty = refl
-number_index params.PostDisplayPenalty = refl
-number_index params.InterLinePenalty = refl
-number_index params.DoubleHyphenDemerits = refl
-number_index params.FinalHyphenDemerits = refl
-number_index params.AdjDemerits = refl
-number_index params.Mag = refl
-number_index params.DelimiterFactor = refl
-number_index params.Looseness = refl
-number_index params.Time = refl
-number_index params.Day = refl
-number_index params.Month = refl
-number_index params.Year = refl
-number_index params.ShowBoxBreadth = refl
-number_index params.ShowBoxDepth = refl
-number_index params.HBadness = refl
-number_index params.VBadness = refl
-number_index params.Pausing = refl
-number_index params.TracingOnline = refl
-number_index params.TracingMacros = refl
-number_index params.TracingStats = refl
-number_index params.TracingParagraphs = refl
-number_index params.TracingPages = refl
-number_index params.TracingOutput = refl
-number_index params.TracingLostChars = refl
-number_index params.TracingCommands = refl
-number_index params.TracingRestores = refl
-number_index params.TracingAssigns = refl
-number_index params.TracingGroups = refl
-number_index params.TracingIfs = refl
-number_index params.TracingScanTokens = refl
-number_index params.TracingNesting = refl
-number_index params.UcHyph = refl
-number_index params.OutputPenalty = refl
-number_index params.MaxDeadCycles = refl
-number_index params.HangAfter = refl
-number_index params.FloatingPenalty = refl
-number_index params.GlobalDefs = refl
-number_index params.Fam = refl
-number_index params.EscapeChar = refl
-number_index params.DefaultHyphenChar = refl
-number_index params.DefaultSkewChar = refl
-number_index params.EndLineChar = refl
-number_index params.NewLineChar = refl
-number_index params.Language = refl
-number_index params.LeftHyphenMin = refl
-number_index params.RightHyphenMin = refl
-number_index params.HoldingInserts = refl
-number_index params.ErrorContextLines = refl
+-- the key of a kind and number is the one that has them
+back : (k : Key) → font_of k < 256 → key_at (kind_of k) (at_of k) ≡ Some k
+unfolding key_at
+back (key.Meaning name) low = refl
+back (key.Active code) low = refl
+back (key.Int parameter) low = ap (option_map key.Int) (int_back parameter)
+back (key.Dimen parameter) low = ap (option_map key.Dimen) (dimen_back parameter)
+back (key.Glue parameter) low = ap (option_map key.Glue) (glue_back parameter)
+back (key.MuGlue parameter) low = ap (option_map key.MuGlue) (mu_glue_back parameter)
+back (key.Tokens parameter) low = ap (option_map key.Tokens) (token_back parameter)
+back (key.Register kind number) low = register_back kind number
+back (key.Box number) low = refl
+back (key.Code kind code) low = code_back kind code
+back (key.FontInt kind font) low = font_int_back kind font
+back (key.FamilyFont size family) low = family_font_back size family
+back (key.FontDimen font parameter) low = font_dimen_back font parameter low
+back (key.Single single) low = ap (option_map key.Single) (single_back single)
+back (key.Font font) low = refl
+back (key.InStream stream) low = refl
+back (key.OutStream stream) low = refl
+back (key.Mark kind class) low = mark_back kind class
 
-int_one : (p q : IntParam) → int_number p ≡ int_number q → p ≡ q
-int_one p q e = values_one param.enum p q (index_one param.enum.parts tt (param.as_values p) (param.as_values q) (sym (number_index p) ∙ e ∙ number_index q))
+some_is : {X : Type 0} (x y : X) → Some x ≡ Some y → x ≡ y
+some_is x y e = cc
 
--- a slot tells its key
+kind_is : (x y : Kind) → kind_number x ≡ kind_number y → x ≡ y
+kind_is x y e = some_is x y (sym (kind_back x) ∙ ap kind_at e ∙ kind_back y)
+
+near_is : (k q : Key) → font_of k < 256 → font_of q < 256 → slot_at (number_of k) ≡ slot_at (number_of q) → k ≡ q
+near_is k q low small e =
+    let kind : kind_of k ≡ kind_of q = kind_is (kind_of k) (kind_of q) (ap (λ (s : Slot). s.kind) e) in
+    let at : at_of k ≡ at_of q = ap (λ (s : Slot). s.at) e in
+    some_is k q (sym (back k low) ∙ ap (λ (x : Kind). key_at x (at_of k)) kind ∙ ap (key_at (kind_of q)) at ∙ back q small)
+
+-- ---- kinds have the numbers 0 to 40
+
+within : {X : Type 0} (xs : List X) (n : ℕ) (x : X) → slice_get xs n ≡ Some x → n < length xs
+within [] n x e = absurd (cc)
+within (y ∷ xs) zero x e = omega arith
+within (y ∷ xs) (suc n) x e = let rest = within xs n x e in omega (arith, rest)
+
+kind_small : (x : Kind) → kind_number x < 41
+unfolding kind_at all_kinds
+kind_small x = within all_kinds (kind_number x) x (kind_back x)
+
+-- ---- a parameter of a font that isn't there
+
+far_is : (k : Key) → nat_lt (font_of k) 256 ≡ false → k ≡ key.FontDimen (font_of k) (parameter_of k)
+far_is (key.FontDimen font parameter) e = refl
+far_is (key.Meaning name) e = absurd (cc)
+far_is (key.Active code) e = absurd (cc)
+far_is (key.Int parameter) e = absurd (cc)
+far_is (key.Dimen parameter) e = absurd (cc)
+far_is (key.Glue parameter) e = absurd (cc)
+far_is (key.MuGlue parameter) e = absurd (cc)
+far_is (key.Tokens parameter) e = absurd (cc)
+far_is (key.Register kind number) e = absurd (cc)
+far_is (key.Box number) e = absurd (cc)
+far_is (key.Code kind code) e = absurd (cc)
+far_is (key.FontInt kind font) e = absurd (cc)
+far_is (key.FamilyFont size family) e = absurd (cc)
+far_is (key.Single single) e = absurd (cc)
+far_is (key.Font font) e = absurd (cc)
+far_is (key.InStream stream) e = absurd (cc)
+far_is (key.OutStream stream) e = absurd (cc)
+far_is (key.Mark kind class) e = absurd (cc)
+
+-- ---- a slot tells its key
+
+abbrev slot_by : Bool → Key → Slot
+slot_by b k = if b then slot_at (number_of k) else record { kind = 41 + font_of k; at = parameter_of k }
+
+apart : (k q : Key) → slot_at (number_of k) ≡ record { kind = 41 + font_of q; at = parameter_of q } → ⊥
+apart k q e =
+    let same_kind : kind_number (kind_of k) ≡ 41 + font_of q = ap (λ (s : Slot). s.kind) e in
+    let small = kind_small (kind_of k) in
+    omega (arith, same_kind, small)
+
+low_of : (n : ℕ) → nat_lt n 256 ≡ true → n < 256
+low_of n e = grind (arith, nat_tests)
+
+by_tests : (k q : Key) (b d : Bool) → nat_lt (font_of k) 256 ≡ b → nat_lt (font_of q) 256 ≡ d → slot_by b k ≡ slot_by d q → k ≡ q
+by_tests k q true true low small e = near_is k q (low_of (font_of k) low) (low_of (font_of q) small) e
+by_tests k q true false low far e = absurd (apart k q e)
+by_tests k q false true far small e = absurd (apart q k (sym e))
+by_tests k q false false far beyond e =
+    let font : 41 + font_of k ≡ 41 + font_of q = ap (λ (s : Slot). s.kind) e in
+    let fonts : font_of k ≡ font_of q = omega (arith, font) in
+    let parameters : parameter_of k ≡ parameter_of q = ap (λ (s : Slot). s.at) e in
+    far_is k far ∙ ap (λ (f : ℕ). key.FontDimen f (parameter_of k)) fonts ∙ ap (key.FontDimen (font_of q)) parameters ∙ sym (far_is q beyond)
+
 pub slot_is : (k q : Key) → slot_of k ≡ slot_of q → k ≡ q
 unfolding slot_of
-slot_is (keys.Meaning n) (keys.Meaning m) e = ap keys.Meaning (ap (λ (s : Slot). s.at) e)
-slot_is (keys.Meaning n) (keys.Active m) e = let k : 0 ≡ 1 = ap (λ (s : Slot). s.kind) e in absurd (omega (arith, k))
-slot_is (keys.Meaning n) (keys.Category m) e = let k : 0 ≡ 2 = ap (λ (s : Slot). s.kind) e in absurd (omega (arith, k))
-slot_is (keys.Meaning n) (keys.Int m) e = let k : 0 ≡ 3 = ap (λ (s : Slot). s.kind) e in absurd (omega (arith, k))
-slot_is (keys.Meaning n) keys.AfterAssignment e = let k : 0 ≡ 4 = ap (λ (s : Slot). s.kind) e in absurd (omega (arith, k))
-slot_is (keys.Active n) (keys.Meaning m) e = let k : 1 ≡ 0 = ap (λ (s : Slot). s.kind) e in absurd (omega (arith, k))
-slot_is (keys.Active n) (keys.Active m) e = ap keys.Active (ap (λ (s : Slot). s.at) e)
-slot_is (keys.Active n) (keys.Category m) e = let k : 1 ≡ 2 = ap (λ (s : Slot). s.kind) e in absurd (omega (arith, k))
-slot_is (keys.Active n) (keys.Int m) e = let k : 1 ≡ 3 = ap (λ (s : Slot). s.kind) e in absurd (omega (arith, k))
-slot_is (keys.Active n) keys.AfterAssignment e = let k : 1 ≡ 4 = ap (λ (s : Slot). s.kind) e in absurd (omega (arith, k))
-slot_is (keys.Category n) (keys.Meaning m) e = let k : 2 ≡ 0 = ap (λ (s : Slot). s.kind) e in absurd (omega (arith, k))
-slot_is (keys.Category n) (keys.Active m) e = let k : 2 ≡ 1 = ap (λ (s : Slot). s.kind) e in absurd (omega (arith, k))
-slot_is (keys.Category n) (keys.Category m) e = ap keys.Category (ap (λ (s : Slot). s.at) e)
-slot_is (keys.Category n) (keys.Int m) e = let k : 2 ≡ 3 = ap (λ (s : Slot). s.kind) e in absurd (omega (arith, k))
-slot_is (keys.Category n) keys.AfterAssignment e = let k : 2 ≡ 4 = ap (λ (s : Slot). s.kind) e in absurd (omega (arith, k))
-slot_is (keys.Int n) (keys.Meaning m) e = let k : 3 ≡ 0 = ap (λ (s : Slot). s.kind) e in absurd (omega (arith, k))
-slot_is (keys.Int n) (keys.Active m) e = let k : 3 ≡ 1 = ap (λ (s : Slot). s.kind) e in absurd (omega (arith, k))
-slot_is (keys.Int n) (keys.Category m) e = let k : 3 ≡ 2 = ap (λ (s : Slot). s.kind) e in absurd (omega (arith, k))
-slot_is (keys.Int n) (keys.Int m) e = ap keys.Int (int_one n m (ap (λ (s : Slot). s.at) e))
-slot_is (keys.Int n) keys.AfterAssignment e = let k : 3 ≡ 4 = ap (λ (s : Slot). s.kind) e in absurd (omega (arith, k))
-slot_is keys.AfterAssignment (keys.Meaning m) e = let k : 4 ≡ 0 = ap (λ (s : Slot). s.kind) e in absurd (omega (arith, k))
-slot_is keys.AfterAssignment (keys.Active m) e = let k : 4 ≡ 1 = ap (λ (s : Slot). s.kind) e in absurd (omega (arith, k))
-slot_is keys.AfterAssignment (keys.Category m) e = let k : 4 ≡ 2 = ap (λ (s : Slot). s.kind) e in absurd (omega (arith, k))
-slot_is keys.AfterAssignment (keys.Int m) e = let k : 4 ≡ 3 = ap (λ (s : Slot). s.kind) e in absurd (omega (arith, k))
-slot_is keys.AfterAssignment keys.AfterAssignment e = refl
+slot_is k q e = by_tests k q (nat_lt (font_of k) 256) (nat_lt (font_of q) 256) refl refl e
+
+pub same_is : (k q : Key) → same k q ≡ true → k ≡ q
+same_is k q e = slot_is k q (slotted.same_is (slot_of k) (slot_of q) e)
+
+pub same_self : (k : Key) → same k k ≡ true
+same_self k = slotted.same_self (slot_of k)

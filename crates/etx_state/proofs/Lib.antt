@@ -1,3 +1,5 @@
+pub mod Conditions
+pub mod Counted
 pub mod Fitting
 pub mod Keys
 pub mod Marks

@@ -2,13 +2,14 @@
 use Rattle.std.proofs.Common.{◌≡◌, ◌≢◌, ℕ, zero, suc, ◌-◌, ◌<◌, ◌≤◌, ◌==◌, List, [], ◌∷◌, ◌++◌, Option, Some, None, Bool, true, false, refl, sym, ◌∙◌, ap, subst, arith, if◌then◌else◌, unwrap_or, length, ⊎_elim}
 use Rattle.std.proofs.lemmas.Bool.Decides.{nat_tests}
 use Rattle.std.proofs.Math.Nat.{eq-or-lt_of_le}
-use Rattle.etx_state.specs.declared.key.Key.{Key}
+use Rattle.etx_keys.specs.declared.key.Key.{Key}
 use Rattle.etx_state.specs.declared.key.Val.{Val}
 use Rattle.etx_state.specs.declared.key.GroupKind.{GroupKind}
 use Rattle.etx_state.specs.declared.cell.Cell.{Cell}
 use Rattle.etx_state.specs.declared.cell.Item.{Item}
 use Rattle.etx_state.specs.declared.cell.Item.TheVariants.{Undo, After, Begin}
-use Rattle.etx_state.specs.Values.{same, inside, outermost, with_outer, with_key, without_key, put_in, by_has, change_at, get, assign, assign_global, change, begin, ended, kind, after, noted, level}
+use Rattle.etx_state.specs.Slots.{same}
+use Rattle.etx_state.specs.Values.{inside, outermost, with_outer, with_key, without_key, put_in, by_has, change_at, get, assign, assign_global, change, begin, ended, kind, after, noted, level}
 use Rattle.etx_state.specs.Saves.{Cells, put, back, depth_of, map_at, maps, values, IsTied, left_of, kind_in}
 use Rattle.etx_state.proofs.Keys.{same_is, same_self}
 use Rattle.etx_matter.specs.declared.token.Token.{Token}

@@ -1,7 +1,7 @@
 -- What a write of the store or the stack does to the cells and the items.
 use Rattle.std.proofs.Common.{◌≡◌, ℕ, zero, suc, ◌+◌, ◌-◌, ◌<◌, ◌≤◌, List, [], ◌∷◌, ◌++◌, length, take, reverse, Option, Some, None, Bool, true, false, add-one, slice_get, refl, sym, ◌∙◌, ap, subst, arith, if◌then◌else◌}
 use Rattle.std.proofs.lemmas.List.{reverse-append, reverse-reverse, take-append-le, take_all, length-append}
-use Rattle.etx_state.specs.declared.key.Key.{Key}
+use Rattle.etx_keys.specs.declared.key.Key.{Key}
 use Rattle.etx_state.specs.declared.cell.Cell.{Cell}
 use Rattle.etx_state.specs.declared.key.GroupKind.{GroupKind}
 use Rattle.etx_state.specs.declared.cell.Item.{Item}
@@ -12,25 +12,21 @@ use Rattle.etx_undo.specs.declared.slot.Slot.{Slot}
 use Rattle.etx_undo.specs.Slots as slots
 use Rattle.etx_undo.specs.History.{Kept, present, IsSet}
 use Rattle.etx_undo.specs.History as history
-use Rattle.etx_undo.proofs.Slots as slotted
 use Rattle.etx_undo.proofs.Histories.{IsSince-set, IsSince-back, present-back, at-place}
 use Rattle.etx_stack.specs.Undoing.{Stacked}
 use Rattle.etx_stack.specs.Undoing as undoing
-use Rattle.etx_state.specs.Values.{same}
 use Rattle.etx_state.specs.Saves.{cell_or, cells_of, cells_at, items_of, items_at, back, left_of, depth_of, depth_after, put, Cells, CellsFit, ItemFits, ItemsFit, IsTied, IsWhole, IsSound, IsKeptIn, KeepsIn, top_of, tail_of, kind_in}
 use Rattle.etx_state.proofs.Refine.{tied_back}
-use Rattle.etx_state.proofs.Keys.{slot_is, same_is, same_self}
+use Rattle.etx_state.proofs.Keys.{same_is, same_self}
 use Rattle.etx_state.specs.Fits.{Fits}
-use Rattle.etx_state.specs.Slots.{slot_of}
+use Rattle.etx_state.specs.Slots.{slot_of, same}
 use Rattle.etx_matter.specs.declared.token.Token.{Token}
 
 abbrev pub IsNoBegin : Item → Type 0
 IsNoBegin i = (g : GroupKind) → i ≡ Begin g → ⊥
 
 key_test : (k q : Key) → slots.same (slot_of k) (slot_of q) ≡ same k q
-key_test k q = sym (slotted.as_same (slot_of k) (slot_of q) (same k q)
-    (λ t. ap slot_of (same_is k q t))
-    (λ e. subst (λ (q' : Key). same k q' ≡ true) (slot_is k q e) (same_self k)))
+key_test k q = refl
 
 pub cells_set : (old new : Parts) (k : Key) (w : Cell) → IsSet old.store new.store (slot_of k) w → cells_of new ≡ put (cells_of old) k w
 unfolding cells_of
@@ -52,13 +48,13 @@ items_same old new e = ap reverse e
 
 -- the last item of a list is the first of the list turned round
 
-cases : {A : Type 0} (P : List A → Type 0) → P [] → ((ys : List A) (x : A) → P (ys ++ x ∷ [])) → (xs : List A) → P xs
+pub cases : {A : Type 0} (P : List A → Type 0) → P [] → ((ys : List A) (x : A) → P (ys ++ x ∷ [])) → (xs : List A) → P xs
 cases {A} P n s xs = subst P (reverse-reverse xs) (by (reverse xs)) where
   by : (zs : List A) → P (reverse zs)
   by [] = n
   by (z ∷ zs) = subst P (sym (reverse-append (z ∷ []) zs)) (s (reverse zs) z)
 
-get_last : {A : Type 0} (ys : List A) (x : A) → slice_get (ys ++ x ∷ []) (length ys) ≡ Some x
+pub get_last : {A : Type 0} (ys : List A) (x : A) → slice_get (ys ++ x ∷ []) (length ys) ≡ Some x
 get_last [] x = refl
 get_last (y ∷ ys) x = get_last ys x
 

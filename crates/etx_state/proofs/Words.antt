@@ -1,6 +1,6 @@
 -- What the calls on the store and the stack mean in the words on values.
 use Rattle.std.proofs.Common.{◌≡◌, ◌≢◌, ℕ, ◌<◌, ◌≤◌, List, [], ◌∷◌, ◌++◌, reverse, Option, Some, None, length, refl, sym, ◌∙◌, ap, subst, arith}
-use Rattle.etx_state.specs.declared.key.Key.{Key}
+use Rattle.etx_keys.specs.declared.key.Key.{Key}
 use Rattle.etx_state.specs.declared.key.Val.{Val}
 use Rattle.etx_state.specs.declared.cell.Cell.{Cell}
 use Rattle.etx_state.specs.declared.key.GroupKind.{GroupKind}

@@ -11,6 +11,15 @@ use Rattle.etx_state.specs.declared.frozen.Frozen.TheVariants as frozen
 use Rattle.etx_state.specs.declared.key.Meaning.{Meaning}
 use Rattle.etx_state.specs.declared.key.Meaning.TheVariants as meanings
 
+-- the number of each
+abbrev pub frozen_number : Frozen → ℕ
+frozen_number frozen.Fi = 1048577
+frozen_number frozen.Relax = 1048578
+frozen_number frozen.EndTemplate = 1048579
+frozen_number frozen.Cr = 1048580
+frozen_number frozen.EndGroup = 1048581
+frozen_number frozen.Right = 1048582
+
 -- the one with this number
 unfoldable pub frozen_of : ℕ → Option Frozen
 frozen_of number =

@@ -1,3 +1,4 @@
+pub mod Conditions
 pub mod Fits
 pub mod Frozen
 pub mod Initial

@@ -35,8 +35,8 @@ abbrev pub with_entries : List Entry → Mouth → Mouth
 with_entries es m = record m { entries = es }
 
 -- INITEX's mouth at the start of a job: nothing is read yet
-abbrev pub first_mouth : Mouth
-first_mouth = record { rest = first_rest; input = no_input; entries = []; spent = 0 }
+abbrev pub first_mouth : List ℕ → Mouth
+first_mouth job = record { rest = first_rest job; input = no_input; entries = []; spent = 0 }
 
 -- what is read next, under the categories and the \endlinechar that hold now
 abbrev pub given : Mouth → Given

@@ -1,6 +1,6 @@
 -- What the parts of the state stand for: cells with levels, and the stack of what the ends of groups do.
 use Rattle.std.specs.Prelude.{◌≡◌, ℕ, ◌+◌, ◌<◌, ◌≤◌, zero, suc, ◌==◌, List, [], ◌∷◌, reverse, take, Option, Some, None, if◌then◌else◌}
-use Rattle.etx_state.specs.declared.key.Key.{Key}
+use Rattle.etx_keys.specs.declared.key.Key.{Key}
 use Rattle.etx_state.specs.declared.key.Val.{Val}
 use Rattle.etx_state.specs.declared.key.GroupKind.{GroupKind}
 use Rattle.etx_state.specs.declared.cell.Cell.{Cell}
@@ -10,11 +10,11 @@ use Rattle.etx_state.specs.declared.parts.Parts.{Parts}
 use Rattle.etx_undo.specs.declared.state_mark.RestMark.{RestMark}
 use Rattle.etx_undo.specs.History as history
 use Rattle.etx_stack.specs.Undoing as undoing
-use Rattle.etx_state.specs.Values.{Values, same, inside, outermost}
+use Rattle.etx_state.specs.Values.{Values, inside, outermost}
 use Rattle.etx_matter.specs.declared.token.Token.{Token}
 use Rattle.etx_state.specs.Initial.{first_of}
 use Rattle.etx_state.specs.Fits.{Fits}
-use Rattle.etx_state.specs.Slots.{slot_of}
+use Rattle.etx_state.specs.Slots.{slot_of, same}
 
 abbrev pub cell_or : Key → Option Cell → Cell
 cell_or q (Some c) = c

@@ -1,14 +1,10 @@
 -- What is assigned in groups: a list of maps, one a group.
 use Rattle.std.specs.Prelude.{ℕ, Bool, List, [], ◌∷◌, ◌++◌, Option, Some, None, map, unwrap_or, length, if◌then◌else◌}
-use Rattle.std.specs.Ordering.{is_eq}
-use Rattle.etx_state.specs.declared.key.Key.{Key}
+use Rattle.etx_keys.specs.declared.key.Key.{Key}
 use Rattle.etx_state.specs.declared.key.Val.{Val}
 use Rattle.etx_state.specs.declared.key.GroupKind.{GroupKind}
-use Rattle.etx_state.specs.contracts.key.KeyOrd.TheImpl as KeyOrd
+use Rattle.etx_state.specs.Slots.{same}
 use Rattle.etx_matter.specs.declared.token.Token.{Token}
-
-abbrev pub same : Key → Key → Bool
-same k q = is_eq ((KeyOrd.ghosts).cmp k q)
 
 -- a group: its kind, the tokens that follow its end, and its map
 pub record Group : Type 0 where

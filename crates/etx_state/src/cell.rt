@@ -1,7 +1,8 @@
 //! What the state keeps of a key, and what the end of a group does.
 ghost use Rattle.std.specs.Prelude.{◌≡◌, IfOk};
 
-use crate::key::{GroupKind, Key, Val};
+use crate::key::{GroupKind, Val};
+use etx_keys::Key;
 use etx_matter::Token;
 use std::alloc::AllocError;
 

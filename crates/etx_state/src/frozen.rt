@@ -1,7 +1,7 @@
 //! Control sequences that the machine itself inserts.
 ghost use Rattle.std.specs.Prelude.{◌≡◌, None, Some};
 ghost use Rattle.std.specs.Option.{option_map};
-ghost use Rattle.etx_state.specs.Frozen.{frozen_of, frozen_text};
+ghost use Rattle.etx_state.specs.Frozen.{frozen_number, frozen_of, frozen_text};
 
 use etx_matter::NameId;
 
@@ -29,7 +29,8 @@ impl Frozen {
     /// Its number.
     #[tactic(auto, unfolding(crate::specs::Frozen::frozen_of))]
     pub fn name(self) -> NameId
-        ensures { frozen_of result.0 ≡ Some self }
+        ensures number { result.0 ≡ frozen_number self }
+        ensures known { frozen_of result.0 ≡ Some self }
     {
         match self {
             Frozen::Fi => NameId(1_048_577),

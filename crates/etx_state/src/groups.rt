@@ -6,10 +6,11 @@ ghost use Rattle.etx_state.specs.Saves.{values_in, KeepsIn, IsSound};
 
 use crate::cell::{Cell, Item};
 use crate::initial::Firsts;
-use crate::key::{GroupKind, Key, Val};
+use crate::key::{GroupKind, Val};
 use crate::noted::Noted;
 use crate::parts::Parts;
 use crate::saves;
+use etx_keys::Key;
 use etx_matter::Token;
 use std::alloc::AllocError;
 

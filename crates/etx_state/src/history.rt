@@ -5,12 +5,15 @@ ghost use Rattle.etx_state.specs.declared.parts.Parts.{Parts};
 ghost use Rattle.etx_state.specs.Saves.{values_in, values_in_at, KeepsIn, IsKeptIn, IsBeforeIn, IsSound};
 
 use crate::parts::Parts;
+use etx_stack::Mark;
 use etx_undo::RestMark;
 
-/// A mark of this time, where there are so many names.
-pub fn mark(parts: &mut Parts, names: u32) -> RestMark
+/// A mark of this time, where there are so many names, and this is the mark of the conditionals.
+pub fn mark(parts: &mut Parts, names: u32, conditions: Mark, mag: u16) -> RestMark
     requires { IsSound parts.old }
     ensures names { result.names ≡ names }
+    ensures conditions { result.conditions ≡ conditions }
+    ensures mag { result.mag ≡ mag }
     ensures sound { IsSound parts.new }
     ensures same { values_in parts.new ≡ values_in parts.old }
     ensures live { IsKeptIn result parts.new parts.new }
@@ -25,6 +28,8 @@ pub fn mark(parts: &mut Parts, names: u32) -> RestMark
         saves,
         depth: parts.depth,
         names,
+        conditions,
+        mag,
     }
 }
 

@@ -1,27 +1,13 @@
-//! What is kept: keys, and the values under them.
-ghost use Rattle.std.specs.Prelude.{◌≡◌, IfOk};
+//! The values that are kept under keys.
+ghost use Rattle.std.specs.Prelude.{◌≡◌, ◌↔◌, IsTrue, IfOk};
+ghost use Rattle.etx_keys.specs.Classes.{range_of};
+ghost use Rattle.etx_state.specs.Fits.{Fits, fits, suits_range};
 
 use crate::definition::Macro;
-use etx_matter::Token;
-use etx_prims::{IntParam, Primitive};
+use etx_keys::{Class, Key};
+use etx_matter::{Glue, SharedTokens, Token};
+use etx_prims::{Primitive, RegisterKind};
 use std::alloc::AllocError;
-
-/// One place of the state.
-#[derive(Clone, Copy, Debug, PartialEq, Eq, PartialOrd, Ord)]
-pub enum Key {
-    /// The category of a character, by its code.
-    Category(u8),
-    /// The meaning of a control sequence, by the number of its name. To be written only where a name has the number
-    /// (`State::name` answered it): a name that comes later means what stands here then.
-    Meaning(u32),
-    /// The meaning of an active character, by its code.
-    Active(u8),
-    /// An integer parameter.
-    Int(IntParam),
-    /// The token that `\afterassignment` keeps ("TeX: The Program", section 1266). The book keeps it outside of groups, so
-    /// only `State::set` may write it: an assignment would bring it back at the end of a group.
-    AfterAssignment,
-}
 
 /// What a token means.
 #[derive(Drop)]
@@ -34,6 +20,12 @@ pub enum Meaning {
     Char { code: u8, cat: u8 },
     /// A macro.
     Macro(Macro),
+    /// A character by its code, as `\chardef` gives it ("TeX: The Program", section 1224).
+    CharGiven(u8),
+    /// A math character by its code, as `\mathchardef` gives it.
+    MathGiven(u16),
+    /// A register, as `\countdef` and its kin give it.
+    Register { kind: RegisterKind, number: u16 },
     /// What `\noexpand` makes of a token that would be expanded: it does nothing, as `\relax`, and is not the same as `\relax`
     /// to `\ifx` ("TeX: The Program", section 358). `\let` gives it on.
     Unexpanded,
@@ -57,6 +49,12 @@ impl Meaning {
                 let shared = definition.share()?;
                 Ok(Meaning::Macro(shared))
             }
+            Meaning::CharGiven(code) => Ok(Meaning::CharGiven(*code)),
+            Meaning::MathGiven(code) => Ok(Meaning::MathGiven(*code)),
+            Meaning::Register { kind, number } => Ok(Meaning::Register {
+                kind: *kind,
+                number: *number,
+            }),
             Meaning::Unexpanded => Ok(Meaning::Unexpanded),
             Meaning::EndTemplate => Ok(Meaning::EndTemplate),
         }
@@ -66,29 +64,74 @@ impl Meaning {
 /// A value that is kept under a key. Which ones a key may have, `Fits` in `specs/` says.
 #[derive(Drop)]
 pub enum Val {
-    /// The category of a character.
-    Category(u8),
     /// The meaning of a control sequence or of an active character.
     Means(Meaning),
-    /// An integer.
+    /// An integer, a code, or a dimension in sp.
     Int(i32),
+    /// Glue, or math glue.
+    Glue(Glue),
+    /// A list of tokens.
+    Tokens(SharedTokens),
     /// A token, if one is kept.
     Kept(Option<Token>),
+    /// Nothing yet: an empty box, no shape, no font, no tables, a closed stream. What these keys hold is still to come.
+    Nothing,
+}
+
+/// Whether a number may stand under the key.
+fn suits_range(key: Key, number: i32) -> bool
+    ensures { result ≡ suits_range (range_of key) number }
+{
+    match key.range() {
+        None => false,
+        Some(range) => range.contains(number),
+    }
 }
 
 impl Val {
+    /// Whether the key may have this value: it is of the key's class, and a number is in the key's range.
+    pub fn fits(&self, key: Key) -> bool
+        ensures value { result ≡ fits key self.now }
+        ensures fits { IsTrue result ↔ Fits key self.now }
+    {
+        match self {
+            Val::Means(_) => key.class() == Class::Meaning,
+            Val::Int(number) => match key.class() {
+                Class::Integer => suits_range(key, *number),
+                Class::Dimension => suits_range(key, *number),
+                _ => false,
+            },
+            Val::Glue(_) => key.class() == Class::Glue || key.class() == Class::MuGlue,
+            Val::Tokens(_) => key.class() == Class::Tokens,
+            Val::Kept(_) => key.class() == Class::Token,
+            Val::Nothing => match key.class() {
+                Class::Box => true,
+                Class::Shape => true,
+                Class::Font => true,
+                Class::HyphenTables => true,
+                Class::Stream => true,
+                _ => false,
+            },
+        }
+    }
+
     /// The same value. A value that owns memory is shared, and not copied.
     pub fn share(&self) -> Result<Val, AllocError>
         ensures { IfOk result (λ value. value ≡ self.now) }
     {
         match self {
-            Val::Category(category) => Ok(Val::Category(*category)),
             Val::Means(meaning) => {
                 let meaning = meaning.share()?;
                 Ok(Val::Means(meaning))
             }
             Val::Int(number) => Ok(Val::Int(*number)),
+            Val::Glue(glue) => Ok(Val::Glue(*glue)),
+            Val::Tokens(tokens) => {
+                let tokens = tokens.share()?;
+                Ok(Val::Tokens(tokens))
+            }
             Val::Kept(token) => Ok(Val::Kept(*token)),
+            Val::Nothing => Ok(Val::Nothing),
         }
     }
 }

@@ -7,6 +7,9 @@ use std::alloc::AllocError;
 /// The most groups that may be open.
 pub const MOST_GROUPS: u32 = 10_000;
 
+/// The most conditionals that may be open.
+pub const MOST_CONDITIONS: usize = 10_000;
+
 /// The most names of control sequences that a job may have.
 pub const MOST_NAMES: u32 = 1_048_576;
 

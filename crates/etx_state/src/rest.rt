@@ -1,18 +1,25 @@
 //! The rest of the state: all that is not scanning.
-ghost use Rattle.std.specs.Prelude.{◌≡◌, false, ◌↔◌, ◌≤◌, ◌++◌, length, slice_get, Err, OnOk, OnErr, IfOk};
+ghost use Rattle.std.specs.Prelude.{◌≡◌, false, ◌↔◌, ◌≤◌, ◌++◌, ◌∷◌, length, reverse, slice_get, Err, OnOk, OnErr, IfOk};
 ghost use Rattle.std.specs.Option.{option_map};
 ghost use Rattle.etx_undo.specs.declared.state_mark.RestMark.{RestMark};
 ghost use Rattle.etx_prims.specs.Lookup.{primitive_named};
 ghost use Rattle.etx_state.specs.declared.rest.Rest.{Rest};
+ghost use Rattle.etx_stack.specs.Undoing as undoing;
 ghost use Rattle.etx_state.specs.Fits.{Fits};
 ghost use Rattle.etx_state.specs.Naming.{IsApart, IsFresh};
-ghost use Rattle.etx_state.specs.Reading.{category_in, meaning_in, active_in, int_in, kept_in, token_meaning};
+ghost use Rattle.etx_state.specs.Conditions.{top_condition, without_top, with_branch};
+ghost use Rattle.etx_state.specs.Initial.{no_glue};
+ghost use Rattle.etx_state.specs.Reading.{number_at, glue_at, tokens_at, category_in, meaning_in, active_in, int_in, kept_in, token_meaning};
 ghost use Rattle.etx_state.specs.Values.{get, assign, assign_global, change, begin, ended, after, kind, noted, level};
 ghost use Rattle.etx_state.specs.Rests.{
   rest_of,
   rest_at,
   first_rest,
   with_values,
+  with_conditions,
+  with_mag,
+  is_undefined,
+  is_defined_name,
   OnlyValues,
   number_of,
   has_room,
@@ -23,14 +30,18 @@ ghost use Rattle.etx_state.specs.Rests.{
   Keeps,
 };
 
-use crate::key::{GroupKind, Key, Meaning, Val};
+use crate::condition::{Branch, Condition};
+use crate::key::{GroupKind, Meaning, Val};
 use crate::limit::{Capacity, MOST_NAMES};
 use crate::names::Names;
 use crate::noted::Noted;
 use crate::scopes::Scopes;
+use etx_keys::{Key, Single};
 use etx_lexer::CatOf;
-use etx_matter::{Limit, NameId, Token, Tokens};
+use etx_lists::Bytes;
+use etx_matter::{Glue, GlueOrder, Limit, NameId, SharedTokens, Token, Tokens};
 use etx_prims::{IntParam, lookup};
+use etx_stack::Stack;
 use etx_undo::RestMark;
 use std::alloc::{AllocError, Global};
 
@@ -43,7 +54,8 @@ pub struct Ended {
     pub tokens: Tokens,
 }
 
-/// All of the state that is not scanning: values under keys, in groups, and the names of control sequences.
+/// All of the state that is not scanning: values under keys, in groups, the names of control sequences, the conditionals that
+/// are open, the name of the job, and the magnification once it is fixed.
 ///
 /// Contracts see it as a plain record (`rest_of`). Its values are a list of maps, one for each open group and an outermost
 /// one that has every key; its names are a list in which each has its number as its place. Every value fits its key. It
@@ -55,19 +67,73 @@ pub struct Rest {
     alloc: Global,
     scopes: Scopes,
     names: Names,
+    conditions: Stack<Condition>,
+    job: Bytes,
+    mag: u16,
+}
+
+/// No glue.
+fn no_glue() -> Glue
+    ensures { result ≡ no_glue }
+{
+    Glue {
+        width: 0,
+        stretch: 0,
+        shrink: 0,
+        stretch_order: GlueOrder::Normal,
+        shrink_order: GlueOrder::Normal,
+    }
+}
+
+/// Whether it is no meaning.
+fn is_undefined(meaning: &Meaning) -> bool
+    ensures { result ≡ is_undefined meaning.now }
+{
+    match meaning {
+        Meaning::Undefined => true,
+        _ => false,
+    }
+}
+
+/// Those inside the one that changes are taken off, and put on again.
+fn change_branch(
+    conditions: &mut Stack<Condition>,
+    number: usize,
+    branch: Branch,
+) -> Result<(), AllocError>
+    ensures ok { OnOk result (reverse conditions.new.items ≡ with_branch number branch (reverse conditions.old.items)) }
+    ensures kept { undoing.Keeps conditions.old conditions.new }
+{
+    let len = conditions.len();
+    let Some(condition) = conditions.pop()? else {
+        return Ok(());
+    };
+    if len == number {
+        return conditions.push(Condition {
+            branch,
+            ..condition
+        });
+    }
+    change_branch(conditions, number, branch)?;
+    conditions.push(condition)
 }
 
 impl Rest {
     /// That of INITEX at the start of a job: no group is open, and `par` alone has a number, which is `PAR`.
-    pub fn open(alloc: Global) -> Result<Rest, AllocError>
-        ensures { IfOk result (λ r. rest_of r ≡ first_rest) }
+    pub fn open(alloc: Global, job: &[u8]) -> Result<Rest, AllocError>
+        ensures { IfOk result (λ r. rest_of r ≡ first_rest job.now) }
     {
         let mut names = Names::new(alloc);
         names.add(alloc, b"par")?;
+        let scopes = Scopes::new(alloc)?;
+        let job = Bytes::from_slice(alloc, job)?;
         Ok(Rest {
             alloc,
-            scopes: Scopes::new(alloc),
+            scopes,
             names,
+            conditions: Stack::new(alloc),
+            job,
+            mag: 0,
         })
     }
 
@@ -144,12 +210,121 @@ impl Rest {
         }
     }
 
+    /// The number under a key, which may be a dimension. 0 where no number stands under it.
+    #[tactic(auto, unfolding(crate::specs::Reading::number_at))]
+    pub fn number(&self, key: Key) -> i32
+        ensures { result ≡ number_at (rest_of self.now).values key }
+    {
+        match self.get(key) {
+            Val::Int(number) => *number,
+            _ => 0,
+        }
+    }
+
+    /// The glue under a key, which may be math glue. None where no glue stands under it.
+    #[tactic(auto, unfolding(crate::specs::Reading::glue_at))]
+    pub fn glue(&self, key: Key) -> Glue
+        ensures { result ≡ glue_at (rest_of self.now).values key }
+    {
+        match self.get(key) {
+            Val::Glue(glue) => *glue,
+            _ => no_glue(),
+        }
+    }
+
+    /// The tokens under a key, which are shared. None where no tokens stand under it.
+    #[tactic(auto, unfolding(crate::specs::Reading::tokens_at))]
+    pub fn tokens(&self, key: Key) -> Result<SharedTokens, AllocError>
+        ensures { IfOk result (λ tokens. tokens ≡ tokens_at (rest_of self.now).values key) }
+    {
+        match self.get(key) {
+            Val::Tokens(tokens) => tokens.share(),
+            _ => SharedTokens::new(self.alloc, Tokens::new(self.alloc)),
+        }
+    }
+
+    /// The name of the job.
+    pub fn job(&self) -> &[u8]
+        ensures { result.now ≡ (rest_of self.now).job }
+    {
+        self.job.as_slice()
+    }
+
+    /// The magnification that was fixed at its first use, or 0.
+    pub fn fixed_mag(&self) -> u16
+        ensures { result ≡ (rest_of self.now).mag }
+    {
+        self.mag
+    }
+
+    /// Fixes the magnification.
+    #[tactic(auto, using(crate::proofs::Marks::keeps_scopes))]
+    pub fn fix_mag(&mut self, mag: u16)
+        ensures rest { rest_of self.new ≡ with_mag mag (rest_of self.old) }
+        ensures kept { Keeps self.old self.new }
+    {
+        self.mag = mag;
+    }
+
+    /// The number of conditionals that are open.
+    pub fn conditions(&self) -> usize
+        ensures { result ≡ length (rest_of self.now).conditions }
+    {
+        self.conditions.len()
+    }
+
+    /// The innermost conditional. `None` exactly where none is open.
+    #[tactic(auto, using(crate::proofs::Conditions::condition_top))]
+    pub fn condition(&self) -> Option<Condition>
+        ensures { result ≡ top_condition (rest_of self.now).conditions }
+    {
+        self.conditions.last().copied()
+    }
+
+    /// One conditional more. After an `Err` the rest is what it was.
+    #[tactic(auto, using(crate::proofs::Conditions::condition_more, crate::proofs::Marks::keeps_conditions))]
+    pub fn open_condition(&mut self, condition: Condition) -> Result<(), AllocError>
+        ensures ok { OnOk result (rest_of self.new ≡ with_conditions (condition ∷ (rest_of self.old).conditions) (rest_of self.old)) }
+        ensures err { OnErr result (self.new ≡ self.old) }
+        ensures kept { Keeps self.old self.new }
+    {
+        self.conditions.push(condition)
+    }
+
+    /// The innermost conditional is over. After an `Err` the rest is what it was.
+    #[tactic(auto, using(crate::proofs::Conditions::condition_fewer, crate::proofs::Marks::keeps_conditions))]
+    pub fn close_condition(&mut self) -> Result<(), AllocError>
+        ensures ok { OnOk result (rest_of self.new ≡ with_conditions (without_top (rest_of self.old).conditions) (rest_of self.old)) }
+        ensures kept { Keeps self.old self.new }
+    {
+        self.conditions.drop_last()
+    }
+
+    /// The n-th conditional from the outside has come to a branch. After an `Err` the rest is only dropped.
+    #[tactic(auto, using(crate::proofs::Marks::keeps_conditions))]
+    pub fn set_branch(&mut self, number: usize, branch: Branch) -> Result<(), AllocError>
+        ensures ok { OnOk result (rest_of self.new ≡ with_conditions (with_branch number branch (rest_of self.old).conditions) (rest_of self.old)) }
+        ensures kept { Keeps self.old self.new }
+    {
+        change_branch(&mut self.conditions, number, branch)
+    }
+
+    /// Whether a name means something. It gets no number by this.
+    pub fn is_defined_name(&self, name: &[u8]) -> bool
+        ensures { result ≡ is_defined_name name.now (rest_of self.now) }
+    {
+        match self.names.find(name) {
+            Some(number) => !is_undefined(self.meaning(number)),
+            None => lookup(name).is_some(),
+        }
+    }
+
     /// The token that `\afterassignment` keeps, if there is one.
     #[tactic(auto, unfolding(crate::specs::Reading::kept_in))]
     pub fn after_assignment(&self) -> Option<Token>
         ensures { result ≡ kept_in (rest_of self.now).values }
     {
-        match self.get(Key::AfterAssignment) {
+        match self.get(Key::Single(Single::AfterAssignment)) {
             Val::Kept(token) => *token,
             _ => unreachable!(),
         }
@@ -324,7 +499,8 @@ impl Rest {
         ensures before { (m : RestMark) (first : Rest) → IsKept m first self.old → IsBefore m result }
     {
         let names = self.names.len();
-        self.scopes.mark(names)
+        let conditions = self.conditions.mark();
+        self.scopes.mark(names, conditions, self.mag)
     }
 
     /// Makes the rest what it was at the mark: each value, and each open group, and a name that was made after it is gone.
@@ -337,6 +513,8 @@ impl Rest {
     {
         self.scopes.back_to(mark);
         self.names.truncate(mark.names);
+        self.conditions.back_to(mark.conditions);
+        self.mag = mark.mag;
     }
 
     /// The rest stays, and what it was before is forgotten: earlier marks no longer stand for anything. Takes no memory.
@@ -344,6 +522,7 @@ impl Rest {
         ensures { rest_of self.new ≡ rest_of self.old }
     {
         self.scopes.forget();
+        self.conditions.forget();
     }
 }
 

@@ -21,10 +21,11 @@ ghost use Rattle.etx_state.specs.Fits.{Fits};
 
 use crate::cell::{Cell, Item};
 use crate::initial::Firsts;
-use crate::key::{GroupKind, Key};
+use crate::key::GroupKind;
 use crate::noted::Noted;
 use crate::parts::Parts;
 use crate::slots::slot;
+use etx_keys::Key;
 use std::alloc::AllocError;
 
 /// The cell of the key.

@@ -4,13 +4,17 @@
 //! scan of a number or of a text carries what takes its value, its finisher, so that no value comes to nobody or to one that
 //! takes another kind. Scans and finishers are parted by their owners, the crates that have their rows.
 use crate::definition::Macro;
-use etx_exprs::Digits;
+use crate::key::Meaning;
+use crate::taker::{NumberScan, Taker};
+use etx_exprs::Value as Quantity;
+use etx_keys::Key;
 use etx_lists::Bytes;
 use etx_macros::{Matcher, OpenPattern};
-use etx_matter::{Boxed, Token, Tokens};
+use etx_matter::{Boxed, GlueOrder, Token, Tokens};
+use etx_prims::{ArithmeticKind, CharDefKind, CodeKind, RegisterKind};
 
 /// What stood before a definition or an assignment.
-#[derive(Clone, Copy, Debug, PartialEq, Eq)]
+#[derive(Clone, Copy)]
 pub struct Prefixes {
     pub is_long: bool,
     pub is_outer: bool,
@@ -42,32 +46,95 @@ pub enum ExpansionScan {
     CsName(Boxed<Bytes>),
     /// A macro's call.
     Call(Boxed<Call>),
-    /// An `=` that may be there.
-    Equals,
+    /// `\meaning` waits for a token.
+    MeaningOf,
+    /// `\unless` waits for a conditional.
+    Unless,
+    /// `\if` or `\ifcat` waits for the first of its two tokens.
+    FirstCharacter {
+        test: Test,
+        is_cat: bool,
+    },
+    /// The same for the second.
+    SecondCharacter {
+        test: Test,
+        is_cat: bool,
+        first: Likeness,
+    },
+    /// `\ifx` waits for the first of its two tokens.
+    FirstMeaning(Test),
+    /// The same for the second.
+    SecondMeaning {
+        test: Test,
+        first: Boxed<Meaning>,
+    },
+    /// `\ifnum` or `\ifdim` waits for `<`, `=` or `>` behind this number.
+    Relation {
+        test: Test,
+        is_dimension: bool,
+        first: i32,
+    },
+    /// `\ifdefined` waits for a token.
+    Defined(Test),
+    /// `\ifcsname`: the name so far.
+    IfCsName {
+        test: Test,
+        name: Boxed<Bytes>,
+    },
+    /// A text that isn't taken.
+    Skip(Skip),
 }
 
-/// The form of a number that is built where it stands. (The other forms are still to come.)
-#[derive(Clone, Copy, Debug, PartialEq, Eq)]
-pub enum NumberForm {
-    /// A backquote, and a character or a name of one character.
-    Character,
-    /// One or two digits that stand for 15 at most, and perhaps a space.
-    Digits,
+/// A test that is being read.
+#[derive(Clone, Copy)]
+pub struct Test {
+    /// Whether `\unless` stood before it.
+    pub is_unless: bool,
+    /// Which of the open conditionals is its own, counted from the outside, from 1.
+    pub number: u32,
 }
 
-/// A scan of a number.
-#[derive(Drop)]
-pub enum NumberScan {
-    /// Nothing of it was read.
-    Start(NumberForm),
-    /// Behind a backquote: a character.
-    Constant,
-    /// Its digits, of which `left` more are built.
-    Digits { digits: Digits, left: u8 },
+/// What `\if` and `\ifcat` see of a token ("TeX: The Program", section 506).
+#[derive(Clone, Copy)]
+pub enum Likeness {
+    /// A character, by its code and its category.
+    Character { code: u8, cat: u8 },
+    /// A control sequence that means no character.
+    Command,
+}
+
+/// Where a text ends that isn't taken.
+#[derive(Clone, Copy)]
+pub enum Until {
+    /// At `\fi`.
+    Fi,
+    /// At the `\else` or `\fi` of this conditional.
+    Else { number: u32 },
+    /// At the `\or` of this conditional behind which `cases` are left out, or at its `\else` or `\fi`. Without a number, at these
+    /// alone.
+    Or { number: u32, cases: Option<u32> },
+}
+
+/// A text that isn't taken, as far as it is read ("TeX: The Program", section 494).
+#[derive(Clone, Copy)]
+pub struct Skip {
+    pub until: Until,
+    /// How many conditionals are open in it.
+    pub level: u32,
+    /// The number of the line in which it began.
+    pub line: u32,
+}
+
+/// A relation of two numbers.
+#[derive(Clone, Copy)]
+pub enum Order {
+    Less,
+    Equal,
+    Greater,
 }
 
 /// How far a text in braces is read.
-#[derive(Clone, Copy, Debug, PartialEq, Eq)]
+#[derive(Clone, Copy)]
 pub enum TextPlace {
     /// Before its left brace.
     Before,
@@ -75,17 +142,19 @@ pub enum TextPlace {
     Inside { depth: u32 },
 }
 
-/// A text in braces that is being read, expanded.
+/// A text in braces that is being read.
 #[derive(Drop)]
 pub struct OpenText {
     /// The control sequence that reads it.
     pub reader: Token,
+    /// Whether its tokens are expanded.
+    pub is_expanded: bool,
     pub place: TextPlace,
     pub items: Tokens,
 }
 
 /// A character of category 6 in a parameter text or in a body: a parameter, if a number follows.
-#[derive(Clone, Copy, Debug, PartialEq, Eq)]
+#[derive(Clone, Copy)]
 pub struct ParameterMark {
     /// The token, which may be a control sequence that means such a character.
     pub token: Token,
@@ -113,7 +182,7 @@ pub struct Definition {
 }
 
 /// For what a control sequence is named.
-#[derive(Clone, Copy, Debug, PartialEq, Eq)]
+#[derive(Clone, Copy)]
 pub enum NameFor {
     /// For the definition of a macro.
     Def {
@@ -126,6 +195,16 @@ pub enum NameFor {
     },
     /// For `\futurelet`.
     FutureLet {
+        is_global: bool,
+    },
+    /// For `\chardef` or `\mathchardef`.
+    CharDef {
+        kind: CharDefKind,
+        is_global: bool,
+    },
+    /// For `\countdef` and its kin.
+    RegisterDef {
+        kind: RegisterKind,
         is_global: bool,
     },
 }
@@ -142,51 +221,176 @@ pub enum AssignScan {
     /// A definition's body.
     Body(Boxed<Definition>),
     /// `\let` waits for `=`, or for the token whose meaning is taken.
-    LetEquals { is_global: bool, name: Token },
+    LetEquals {
+        is_global: bool,
+        name: Token,
+    },
     /// The same behind `=`, where one space is skipped.
-    LetSpace { is_global: bool, name: Token },
+    LetSpace {
+        is_global: bool,
+        name: Token,
+    },
     /// The same behind that space.
-    LetToken { is_global: bool, name: Token },
+    LetToken {
+        is_global: bool,
+        name: Token,
+    },
     /// `\futurelet` waits for the first of its two tokens.
-    FutureFirst { is_global: bool, name: Token },
+    FutureFirst {
+        is_global: bool,
+        name: Token,
+    },
     /// `\aftergroup` waits for a token.
     AfterGroup,
     /// `\afterassignment` waits for a token.
     AfterAssignment,
+    /// `\advance`, `\multiply` or `\divide` waits for what it changes.
+    Arithmetic {
+        kind: ArithmeticKind,
+        is_global: bool,
+    },
+    /// The same behind that: the word `by` may be there.
+    By {
+        kind: ArithmeticKind,
+        is_global: bool,
+        key: Key,
+    },
+    /// A list of tokens for this key, in braces or of another key. `reader`: the control sequence that assigns it.
+    List {
+        key: Key,
+        is_global: bool,
+        reader: Token,
+        /// Whether an `=` may stand there no more.
+        is_behind: bool,
+    },
 }
 
 /// A scan of main control that gives no value.
-#[derive(Clone, Copy, Debug, PartialEq, Eq)]
+#[derive(Clone, Copy)]
 pub enum ControlScan {
     /// `\ignorespaces` waits for a token that is no space.
     IgnoreSpaces,
 }
 
 /// What assignments do with a number.
-#[derive(Clone, Copy, Debug, PartialEq, Eq)]
+#[derive(Clone, Copy)]
 pub enum AssignNumber {
-    /// `\catcode`: it is the code of the character that gets another category.
-    CatcodeOf { is_global: bool },
-    /// It is that category.
-    Category { is_global: bool, code: u8 },
+    /// It is the number of a register that gets another value. `reader`: the control sequence that assigns it.
+    Register {
+        kind: RegisterKind,
+        is_global: bool,
+        reader: Token,
+    },
+    /// It is the code of a character that gets another code of this kind.
+    CodeOf {
+        kind: CodeKind,
+        is_global: bool,
+    },
+    /// It is that code.
+    Code {
+        kind: CodeKind,
+        code: u8,
+        is_global: bool,
+    },
+    /// It is the value under this key.
+    Value {
+        key: Key,
+        is_global: bool,
+    },
+    /// It is the character that a control sequence stands for.
+    Character {
+        kind: CharDefKind,
+        name: Token,
+        is_global: bool,
+    },
+    /// It is the number of the register that a control sequence stands for.
+    RegisterName {
+        kind: RegisterKind,
+        name: Token,
+        is_global: bool,
+    },
+    /// It is the number of a register that `\advance` or its kin change.
+    Changed {
+        by: ArithmeticKind,
+        kind: RegisterKind,
+        is_global: bool,
+    },
+    /// It is what they change the value under this key by.
+    Change {
+        by: ArithmeticKind,
+        key: Key,
+        is_global: bool,
+    },
+    /// It is the number of a token register whose list this key gets.
+    ListOf {
+        key: Key,
+        is_global: bool,
+    },
+}
+
+/// What expansion does with a number.
+#[derive(Clone, Copy)]
+pub enum ExpansionNumber {
+    /// `\number` writes it in decimal.
+    Number,
+    /// `\romannumeral` writes it in Roman numerals.
+    RomanNumeral,
+    /// `\the` writes it; a list of tokens is read as it stands where `is_kept`.
+    The {
+        is_kept: bool,
+    },
+    /// It is the first that `\ifnum` or `\ifdim` compares.
+    First {
+        test: Test,
+        is_dimension: bool,
+    },
+    /// It is the second.
+    Second {
+        test: Test,
+        first: i32,
+        order: Order,
+    },
+    /// `\ifodd`.
+    Odd(Test),
+    /// `\ifcase`.
+    Case(Test),
+}
+
+/// What expansion does with a text.
+#[derive(Clone, Copy)]
+pub enum ExpansionText {
+    /// `\unexpanded` reads it, as it stands where `is_kept`.
+    Unexpanded { is_kept: bool },
+    /// `\detokenize` reads its characters.
+    Detokenize,
+}
+
+/// What assignments do with a text.
+#[derive(Clone, Copy)]
+pub enum AssignText {
+    /// It is the list under this key.
+    List { key: Key, is_global: bool },
 }
 
 /// What main control does with a text.
-#[derive(Clone, Copy, Debug, PartialEq, Eq)]
+#[derive(Clone, Copy)]
 pub enum ControlText {
     /// `\message` says it.
     Message,
 }
 
 /// Who takes a number, by owner.
-#[derive(Clone, Copy, Debug, PartialEq, Eq)]
+#[derive(Clone, Copy)]
 pub enum NumberFinish {
+    Expansion(ExpansionNumber),
     Assign(AssignNumber),
 }
 
 /// Who takes a text, by owner.
-#[derive(Clone, Copy, Debug, PartialEq, Eq)]
+#[derive(Clone, Copy)]
 pub enum TextFinish {
+    Expansion(ExpansionText),
+    Assign(AssignText),
     Control(ControlText),
 }
 
@@ -194,10 +398,10 @@ pub enum TextFinish {
 #[derive(Drop)]
 pub enum Scan {
     Expansion(ExpansionScan),
-    /// A number, and who takes it.
+    /// A number, a dimension or glue, and who takes it.
     Number {
         scan: NumberScan,
-        finish: NumberFinish,
+        taker: Boxed<Taker>,
     },
     /// A text, and who takes it.
     Text {
@@ -211,9 +415,11 @@ pub enum Scan {
 /// A value on its way to the one who takes it.
 #[derive(Drop)]
 pub enum Value {
+    /// An amount, which is of this order where it may be infinite.
     Number {
-        number: i32,
-        finish: NumberFinish,
+        amount: Quantity,
+        order: GlueOrder,
+        taker: Boxed<Taker>,
     },
     Text {
         text: Boxed<Tokens>,
@@ -222,7 +428,7 @@ pub enum Value {
 }
 
 /// For what a token is kept while the next one is got.
-#[derive(Clone, Copy, Debug, PartialEq, Eq)]
+#[derive(Clone, Copy)]
 pub enum Keeper {
     /// `\expandafter` expands the next one.
     ExpandAfter,
@@ -234,13 +440,28 @@ pub enum Keeper {
 #[derive(Drop)]
 pub enum Entry {
     /// A scan that waits for a token. `left`: how often its programme may still go on for nothing.
-    Scan { left: u8, scan: Scan },
+    Scan {
+        left: u8,
+        scan: Scan,
+    },
     /// A value that is taken next.
-    Given { left: u8, value: Value },
+    Given {
+        left: u8,
+        value: Value,
+    },
     /// A token that is kept while the next one is got.
-    Kept { token: Token, by: Keeper },
+    Kept {
+        token: Token,
+        by: Keeper,
+    },
     /// A token that is put back next.
     Due(Token),
     /// A text that is said next.
     Say(Bytes),
+    /// A scan that reads a word. The letters that it got are kept, since they are put back where they aren't that word.
+    Word {
+        left: u8,
+        letters: Boxed<Tokens>,
+        scan: Scan,
+    },
 }

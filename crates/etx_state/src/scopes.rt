@@ -10,13 +10,15 @@ ghost use Rattle.etx_state.specs.Reading.{category_in};
 ghost use Rattle.etx_state.specs.Saves.{values_in, values_in_at, KeepsIn, IsKeptIn, IsBeforeIn, cells_of, cells_at, IsSound};
 
 use crate::initial::Firsts;
-use crate::key::{GroupKind, Key, Meaning, Val};
+use crate::key::{GroupKind, Meaning, Val};
 use crate::noted::Noted;
 use crate::parts::Parts;
 use crate::slots::slot;
 use crate::{groups, history};
+use etx_keys::Key;
 use etx_matter::{NameId, Token};
-use etx_stack::Stack;
+use etx_prims::CodeKind;
+use etx_stack::{Mark, Stack};
 use etx_undo::{RestMark, Store};
 use std::alloc::{AllocError, Global};
 use std::marker::Model;
@@ -41,18 +43,19 @@ impl Model for Scopes {
 }
 
 impl Scopes {
-    /// INITEX's values, with no group open. Takes no memory.
-    pub fn new(alloc: Global) -> Scopes
-        ensures { values_in result ≡ outermost first_of }
+    /// INITEX's values, with no group open.
+    pub fn new(alloc: Global) -> Result<Scopes, AllocError>
+        ensures { IfOk result (λ scopes. values_in scopes ≡ outermost first_of) }
     {
-        Scopes {
+        let firsts = Firsts::new(alloc)?;
+        Ok(Scopes {
             parts: Parts {
                 store: Store::new(alloc),
                 stack: Stack::new(alloc),
                 depth: 0,
             },
-            firsts: Firsts::new(),
-        }
+            firsts,
+        })
     }
 
     /// The value in the innermost map that has the key.
@@ -69,8 +72,11 @@ impl Scopes {
         ensures value { result ≡ category_in (values_in self.now) code }
         ensures small { result ≤ 15 }
     {
-        match self.get(Key::Category(code)) {
-            Val::Category(category) => *category,
+        match self.get(Key::Code {
+            kind: CodeKind::Cat,
+            code,
+        }) {
+            Val::Int(category) => *category as u8,
             _ => unreachable!(),
         }
     }
@@ -185,15 +191,17 @@ impl Scopes {
     }
 
     /// A mark of this time, where there are so many names. Takes no memory.
-    pub fn mark(&mut self, names: u32) -> RestMark
+    pub fn mark(&mut self, names: u32, conditions: Mark, mag: u16) -> RestMark
         ensures names { result.names ≡ names }
+        ensures conditions { result.conditions ≡ conditions }
+        ensures mag { result.mag ≡ mag }
         ensures same { values_in self.new ≡ values_in self.old }
         ensures live { IsKeptIn result self.new self.new }
         ensures values { values_in_at self.new result ≡ values_in self.new }
         ensures kept { KeepsIn self.old self.new }
         ensures before { (m : RestMark) (first : Parts) → IsKeptIn m first self.old → IsBeforeIn m result }
     {
-        history::mark(&mut self.parts, names)
+        history::mark(&mut self.parts, names, conditions, mag)
     }
 
     /// Makes the values what they were at the mark. Takes no memory.

@@ -7,10 +7,10 @@ ghost use Rattle.etx_state.specs.Values.{get};
 ghost use Rattle.etx_state.specs.Mouths.{mouth_of, mouth_at, with_input, first_mouth, given, IsKept, IsBefore, Keeps};
 
 use crate::entries::Entries;
-use crate::key::{Key, Val};
+use crate::key::Val;
 use crate::rest::Rest;
 use etx_input::{Levels, Mark, Next};
-use etx_matter::Job;
+use etx_keys::Key;
 use etx_prims::IntParam;
 use etx_undo::{InputMark, StateMark};
 use std::alloc::{AllocError, Global};
@@ -30,12 +30,12 @@ pub struct State {
 
 impl State {
     /// The state of INITEX at the start of a job: no group is open, `par` alone has a number, which is `PAR`, and nothing
-    /// is read yet. Nothing of the job is used yet: every job begins with the same state.
-    pub fn open(alloc: Global, _job: &Job) -> Result<State, AllocError>
-        ensures { IfOk result (λ s. mouth_of s ≡ first_mouth) }
+    /// is read yet. `job` is the name of the job, all that a state knows of it.
+    pub fn open(alloc: Global, job: &[u8]) -> Result<State, AllocError>
+        ensures { IfOk result (λ s. mouth_of s ≡ first_mouth job.now) }
     {
         Ok(State {
-            rest: Rest::open(alloc)?,
+            rest: Rest::open(alloc, job)?,
             input: Levels::new(alloc),
             entries: Entries::new(alloc),
             spent: 0,

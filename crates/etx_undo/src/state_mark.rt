@@ -1,7 +1,7 @@
 //! A mark of the whole state: a record of places, one for each part that goes back by itself.
 use crate::store::Mark;
 
-/// A time in the history of the values and the names.
+/// A time in the history of the values, the names and the conditionals.
 #[derive(Clone, Copy, Debug, PartialEq, Eq)]
 pub struct RestMark {
     /// Of the values under keys.
@@ -12,6 +12,10 @@ pub struct RestMark {
     pub depth: u32,
     /// How many names there were.
     pub names: u32,
+    /// Of the conditionals that were open.
+    pub conditions: etx_stack::Mark,
+    /// The magnification that was fixed, or 0.
+    pub mag: u16,
 }
 
 /// A time in the history of what is read.

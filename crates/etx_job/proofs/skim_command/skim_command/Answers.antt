@@ -13,7 +13,7 @@ returns-then-not-is_quiet-clause-runs c =
     c.args.budget
     (mouth_of c.args.s.now)
     _
-    (rest_is_kept c.args.token c.args.meaning (mouth_of c.args.s.now).rest _ c.in_ok-start.start c.in_ok-start.ensures.start c.in_ok-start.ensures.rest (sym c.is_quiet.ensures ∙ c.if-not-is_quiet.true))
+    (rest_is_kept c.args.token c.args.meaning _ (mouth_of c.args.s.now).rest _ c.in_ok-start.start c.in_ok-start.ensures.start c.in_ok-start.ensures.rest (sym c.is_quiet.ensures ∙ c.if-not-is_quiet.true))
 
 pub returns-clause-runs : goal.returns-clause-runs
 returns-clause-runs c =
@@ -23,9 +23,11 @@ returns-clause-runs c =
     c.args.token
     c.args.meaning
     _
+    _
     c.in_ok-start.start
     _
     _
+    c.line-line.ensures
     c.requires.next
     c.requires.command
     c.in_ok-start.ensures.start
@@ -41,14 +43,11 @@ returns-clause-within c =
     c.args.budget
     (mouth_of c.args.s.now)
     c.args.token
-    c.args.meaning
     _
     c.in_ok-start.start
     _
     _
-    c.in_ok-start.ensures.rest
     (nothing_is _ (sym c.is_quiet.ensures ∙ c.if-not-is_quiet.false))
-    c.in_ok-skip.ensures.ok
     c.in_ok-begin.ensures.now
     (omega (arith, c.requires.within, c.if-s-budget.false))
 
@@ -57,12 +56,9 @@ returns-clause-forth c =
     command_forth
     (mouth_of c.args.s.now)
     c.args.token
-    c.args.meaning
     _
     c.in_ok-start.start
     _
     _
-    c.in_ok-start.ensures.rest
     (nothing_is _ (sym c.is_quiet.ensures ∙ c.if-not-is_quiet.false))
-    c.in_ok-skip.ensures.ok
     c.in_ok-begin.ensures.now

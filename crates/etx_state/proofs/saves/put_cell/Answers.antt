@@ -16,3 +16,6 @@ returns-clause-sound c =
 
 pub returns-clause-kept : goal.returns-clause-kept
 returns-clause-kept c = keeps_set c.args.parts.now _ _ c.args.cell c.in_ok-set.ensures.ok refl
+
+pub returns-in_err-set-clause-sound : goal.returns-in_err-set-clause-sound
+returns-in_err-set-clause-sound c = sound_by _ _ _ (items_same c.args.parts.now _ refl) (cells_same c.args.parts.now _ c.in_err-set.ensures.err) c.requires.sound

@@ -3,7 +3,7 @@ use Rattle.etx_state.proofs.Words.{is_here, is_saved, is_global, is_change, is_b
 use Rattle.etx_state.proofs.scopes.Scopes.new.Goals as goal
 
 pub invariant_of-result : goal.invariant_of-result
-invariant_of-result c = sound_new _ c.new-2.ensures c.new.ensures.empty refl
+invariant_of-result c = sound_new _ c.new-3.ensures c.new-2.ensures.empty refl
 
 pub returns : goal.returns
-returns c = values_new _ c.new-2.ensures c.new.ensures.empty
+returns c = values_new _ c.new-3.ensures c.new-2.ensures.empty
