@@ -36,21 +36,21 @@ use Rattle.etx_state.specs.declared.taker.Want.TheVariants as want
 use Rattle.etx_state.specs.declared.taker.NumberScan.TheVariants as number
 use Rattle.etx_state.specs.Reading.{number_at, glue_at}
 use Rattle.etx_state.specs.Rests.{RestState}
-use Rattle.etx_expand.specs.declared.plan.Did.TheVariants as did
-use Rattle.etx_expand.specs.declared.plan.Move.TheVariants as move
-use Rattle.etx_expand.specs.declared.plan.Plan.{Plan}
-use Rattle.etx_expand.specs.declared.plan.Then.TheVariants as afterwards
-use Rattle.etx_expand.specs.declared.plan.WordPlan.{WordPlan}
-use Rattle.etx_expand.specs.declared.plan.WordPlan.TheVariants as plans
-use Rattle.etx_expand.specs.declared.words.WordSet.TheVariants as words
-use Rattle.etx_expand.specs.declared.words.Spelled.{Spelled}
-use Rattle.etx_expand.specs.declared.words.Spelled.TheVariants as spelled
-use Rattle.etx_expand.specs.Answers.{Planned, planned, Finished, quiet, used}
-use Rattle.etx_expand.specs.Expressions.{number_row}
-use Rattle.etx_expand.specs.Meanings.{has_category}
-use Rattle.etx_expand.specs.Numbers.{integer, plain_length, glue_want}
-use Rattle.etx_expand.specs.Taking.{amount_in, glue_in}
-use Rattle.etx_expand.specs.Words.{begins_word, found_by, letters_of}
+use Rattle.etx_answers.specs.declared.plan.Did.TheVariants as did
+use Rattle.etx_answers.specs.declared.plan.Move.TheVariants as move
+use Rattle.etx_answers.specs.declared.plan.Plan.{Plan}
+use Rattle.etx_answers.specs.declared.plan.Then.TheVariants as afterwards
+use Rattle.etx_answers.specs.declared.plan.WordPlan.{WordPlan}
+use Rattle.etx_answers.specs.declared.plan.WordPlan.TheVariants as plans
+use Rattle.etx_numbers.specs.declared.words.WordSet.TheVariants as words
+use Rattle.etx_numbers.specs.declared.words.Spelled.{Spelled}
+use Rattle.etx_numbers.specs.declared.words.Spelled.TheVariants as spelled
+use Rattle.etx_answers.specs.Answers.{Planned, planned, Finished, quiet, used}
+use Rattle.etx_numbers.specs.Expressions.{number_row}
+use Rattle.etx_answers.specs.Meanings.{has_category}
+use Rattle.etx_numbers.specs.Numbers.{integer, plain_length, glue_want}
+use Rattle.etx_numbers.specs.Taking.{amount_in, glue_in}
+use Rattle.etx_numbers.specs.Words.{begins_word, found_by, letters_of}
 use Rattle.etx_assign.specs.declared.arithmetic.Changed.{Changed}
 use Rattle.etx_assign.specs.declared.arithmetic.Changed.TheVariants as changed
 use Rattle.etx_assign.specs.Assignments.{Over, with_fitting, over, value_over, failing}

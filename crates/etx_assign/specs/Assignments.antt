@@ -19,11 +19,11 @@ use Rattle.etx_state.specs.Fits.{fits}
 use Rattle.etx_state.specs.Values.{Values, assign, assign_global, change}
 use Rattle.etx_state.specs.Reading.{int_in, kept_in}
 use Rattle.etx_state.specs.Rests.{RestState, with_values}
-use Rattle.etx_expand.specs.declared.plan.Did.TheVariants as did
-use Rattle.etx_expand.specs.declared.plan.Ended.{Ended}
-use Rattle.etx_expand.specs.declared.plan.Move.TheVariants.{Used}
-use Rattle.etx_expand.specs.declared.plan.Then.TheVariants.{Insert}
-use Rattle.etx_expand.specs.Answers.{Planned, planned, Finished, finished, insert_token}
+use Rattle.etx_answers.specs.declared.plan.Did.TheVariants as did
+use Rattle.etx_answers.specs.declared.plan.Ended.{Ended}
+use Rattle.etx_answers.specs.declared.plan.Move.TheVariants.{Used}
+use Rattle.etx_answers.specs.declared.plan.Then.TheVariants.{Insert}
+use Rattle.etx_answers.specs.Answers.{Planned, planned, Finished, finished, insert_token}
 use Rattle.etx_assign.specs.declared.prefix.Follower.{Follower}
 use Rattle.etx_assign.specs.declared.prefix.Follower.TheVariants as follower
 

@@ -19,16 +19,16 @@ use Rattle.etx_state.specs.declared.scan.Scan.{Scan}
 use Rattle.etx_state.specs.declared.scan.Scan.TheVariants as scan
 use Rattle.etx_state.specs.Macros.{MacroState}
 use Rattle.etx_state.specs.Rests.{RestState, with_values}
-use Rattle.etx_expand.specs.declared.plan.Move.{Move}
-use Rattle.etx_expand.specs.declared.plan.Move.TheVariants.{Begin, Stay, Copied}
-use Rattle.etx_expand.specs.declared.plan.Plan.{Plan}
-use Rattle.etx_expand.specs.declared.plan.Did.TheVariants as did
+use Rattle.etx_answers.specs.declared.plan.Move.{Move}
+use Rattle.etx_answers.specs.declared.plan.Move.TheVariants.{Begin, Stay, Copied}
+use Rattle.etx_answers.specs.declared.plan.Plan.{Plan}
+use Rattle.etx_answers.specs.declared.plan.Did.TheVariants as did
 use Rattle.etx_macros.specs.declared.mark.Brace.{Brace}
 use Rattle.etx_macros.specs.declared.mark.Brace.TheVariants.{Left, Right, Neither}
 use Rattle.etx_macros.specs.Marks.{brace_of}
-use Rattle.etx_expand.specs.Numbers.{integer}
-use Rattle.etx_expand.specs.Answers.{Planned, planned, reading, quiet, used, fails, fails_back}
-use Rattle.etx_expand.specs.Printing.{shown_name}
+use Rattle.etx_numbers.specs.Numbers.{integer}
+use Rattle.etx_answers.specs.Answers.{Planned, planned, reading, quiet, used, fails, fails_back}
+use Rattle.etx_answers.specs.Printing.{shown_name}
 use Rattle.etx_assign.specs.declared.naming.Target.{Target}
 use Rattle.etx_assign.specs.declared.naming.Target.TheVariants.{Blank, Given, Missing}
 use Rattle.etx_assign.specs.Assignments.{Over, key_of, assigned, over, scan_over}

@@ -24,10 +24,10 @@ use Rattle.etx_state.specs.declared.scan.Scan.TheVariants as scan
 use Rattle.etx_state.specs.declared.taker.NumberScan.TheVariants as number
 use Rattle.etx_state.specs.Reading.{tokens_at}
 use Rattle.etx_state.specs.Rests.{RestState}
-use Rattle.etx_expand.specs.declared.plan.Move.TheVariants as move
-use Rattle.etx_expand.specs.Answers.{Planned, planned, reading, Finished, fails_back}
-use Rattle.etx_expand.specs.Meanings.{has_category, is_relax}
-use Rattle.etx_expand.specs.Numbers.{integer, is_other}
+use Rattle.etx_answers.specs.declared.plan.Move.TheVariants as move
+use Rattle.etx_answers.specs.Answers.{Planned, planned, reading, Finished, fails_back}
+use Rattle.etx_answers.specs.Meanings.{has_category, is_relax}
+use Rattle.etx_numbers.specs.Numbers.{integer, is_other}
 use Rattle.etx_expand.specs.Texts.{text_for}
 use Rattle.etx_assign.specs.declared.lists.Source.{Source}
 use Rattle.etx_assign.specs.declared.lists.Source.TheVariants as source

@@ -6,10 +6,10 @@ use Rattle.etx_state.specs.declared.key.Meaning.{Meaning}
 use Rattle.etx_state.specs.declared.scan.AssignScan.TheVariants as assign
 use Rattle.etx_state.specs.declared.scan.Scan.TheVariants as scan
 use Rattle.etx_state.specs.Rests.{RestState, with_values}
-use Rattle.etx_expand.specs.declared.plan.Move.TheVariants.{Stay}
-use Rattle.etx_expand.specs.Answers.{Planned, planned}
-use Rattle.etx_expand.specs.Meanings.{has_category}
-use Rattle.etx_expand.specs.Numbers.{is_other}
+use Rattle.etx_answers.specs.declared.plan.Move.TheVariants.{Stay}
+use Rattle.etx_answers.specs.Answers.{Planned, planned}
+use Rattle.etx_answers.specs.Meanings.{has_category}
+use Rattle.etx_numbers.specs.Numbers.{is_other}
 use Rattle.etx_assign.specs.Assignments.{key_of, assigned, over, scan_over}
 
 unfoldable pub given_meaning : Bool → Token → Meaning → RestState → RestState

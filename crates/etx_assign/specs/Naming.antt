@@ -6,9 +6,9 @@ use Rattle.etx_state.specs.declared.scan.NameFor.{NameFor}
 use Rattle.etx_state.specs.declared.scan.NameFor.TheVariants as naming
 use Rattle.etx_state.specs.declared.scan.AssignScan.TheVariants as assign
 use Rattle.etx_state.specs.declared.scan.Scan.TheVariants as scan
-use Rattle.etx_expand.specs.declared.plan.Push.TheVariants as push
-use Rattle.etx_expand.specs.declared.plan.Start.{Start}
-use Rattle.etx_expand.specs.Answers.{starting}
+use Rattle.etx_answers.specs.declared.plan.Push.TheVariants as push
+use Rattle.etx_answers.specs.declared.plan.Start.{Start}
+use Rattle.etx_answers.specs.Answers.{starting}
 
 abbrev pub named : NameFor → Start
 named n = starting (push.Begin (scan.Assign (assign.Name n)))

@@ -15,14 +15,14 @@ use Rattle.etx_state.specs.declared.scan.Scan.{Scan}
 use Rattle.etx_state.specs.declared.scan.Scan.TheVariants as scan
 use Rattle.etx_state.specs.Values.{Values}
 use Rattle.etx_state.specs.Rests.{RestState}
-use Rattle.etx_expand.specs.declared.plan.Move.TheVariants.{Stay}
-use Rattle.etx_expand.specs.declared.plan.Plan.{Plan}
-use Rattle.etx_expand.specs.declared.plan.Push.{Push}
-use Rattle.etx_expand.specs.declared.plan.Push.TheVariants as push
-use Rattle.etx_expand.specs.declared.plan.Start.{Start}
-use Rattle.etx_expand.specs.Answers.{quiet, used, fails_back, nothing, start_fails_back, plan_of}
-use Rattle.etx_expand.specs.Printing.{printed, escape_in, shown_name}
-use Rattle.etx_expand.specs.Showing.{character_words, shown_meaning}
+use Rattle.etx_answers.specs.declared.plan.Move.TheVariants.{Stay}
+use Rattle.etx_answers.specs.declared.plan.Plan.{Plan}
+use Rattle.etx_answers.specs.declared.plan.Push.{Push}
+use Rattle.etx_answers.specs.declared.plan.Push.TheVariants as push
+use Rattle.etx_answers.specs.declared.plan.Start.{Start}
+use Rattle.etx_answers.specs.Answers.{quiet, used, fails_back, nothing, start_fails_back, plan_of}
+use Rattle.etx_answers.specs.Printing.{printed, escape_in, shown_name}
+use Rattle.etx_answers.specs.Showing.{character_words, shown_meaning}
 use Rattle.etx_assign.specs.Naming.{named}
 use Rattle.etx_assign.specs.Values.{register_begun, simple_begun}
 use Rattle.etx_assign.specs.declared.prefix.Follower.{Follower}

@@ -11,10 +11,10 @@ use Rattle.etx_input.specs.Levels.{line_number}
 use Rattle.etx_state.specs.declared.scan.AssignNumber.{AssignNumber}
 use Rattle.etx_state.specs.declared.scan.AssignText.{AssignText}
 use Rattle.etx_state.specs.declared.scan.Scan.TheVariants as scan
-use Rattle.etx_expand.specs.declared.plan.Did.TheVariants as did
-use Rattle.etx_expand.specs.declared.plan.Then.TheVariants as afterwards
-use Rattle.etx_expand.specs.declared.plan.WordPlan.{WordPlan}
-use Rattle.etx_expand.specs.declared.plan.WordPlan.TheVariants as plans
+use Rattle.etx_answers.specs.declared.plan.Did.TheVariants as did
+use Rattle.etx_answers.specs.declared.plan.Then.TheVariants as afterwards
+use Rattle.etx_answers.specs.declared.plan.WordPlan.{WordPlan}
+use Rattle.etx_answers.specs.declared.plan.WordPlan.TheVariants as plans
 use Rattle.etx_state.specs.declared.scan.AssignScan.{AssignScan}
 use Rattle.etx_state.specs.declared.scan.AssignScan.TheVariants as assign
 use Rattle.etx_state.specs.declared.scan.Keeper.TheVariants as keeper
@@ -26,9 +26,9 @@ use Rattle.etx_expand.specs.declared.fetch.Idle.{Idle}
 use Rattle.etx_expand.specs.declared.fetch.Idle.TheVariants as idle
 use Rattle.etx_expand.specs.declared.fetch.Fetched.{Fetched}
 use Rattle.etx_expand.specs.declared.fetch.Fetched.TheVariants as fetched
-use Rattle.etx_expand.specs.declared.plan.Move.TheVariants.{Hold}
-use Rattle.etx_expand.specs.declared.plan.Turned.TheVariants as turned
-use Rattle.etx_expand.specs.Answers.{Planned, planned, reading, used}
+use Rattle.etx_answers.specs.declared.plan.Move.TheVariants.{Hold}
+use Rattle.etx_answers.specs.declared.plan.Turned.TheVariants as turned
+use Rattle.etx_answers.specs.Answers.{Planned, planned, reading, used}
 use Rattle.etx_expand.specs.Moves.{After, after, entered, put_back, insert_if, planned_turn, finished_turn, word_turn, turned_by, error_deed}
 use Rattle.etx_expand.specs.Turn.{keeper_fetched, expanded_turn}
 use Rattle.etx_assign.specs.Assignments.{Over, over}

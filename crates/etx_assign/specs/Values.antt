@@ -36,16 +36,16 @@ use Rattle.etx_state.specs.declared.taker.NumberScan.{NumberScan}
 use Rattle.etx_state.specs.declared.taker.NumberScan.TheVariants as number
 use Rattle.etx_state.specs.Reading.{tokens_at}
 use Rattle.etx_state.specs.Rests.{RestState, with_values}
-use Rattle.etx_expand.specs.declared.plan.Did.TheVariants as did
-use Rattle.etx_expand.specs.declared.plan.Push.TheVariants as push
-use Rattle.etx_expand.specs.declared.plan.Start.{Start}
-use Rattle.etx_expand.specs.declared.plan.Then.TheVariants as afterwards
-use Rattle.etx_expand.specs.declared.plan.Ended.{Ended}
-use Rattle.etx_expand.specs.Answers.{Finished, starting, start_ends}
-use Rattle.etx_expand.specs.Numbers.{integer, plain_length, glue_want}
-use Rattle.etx_expand.specs.Outers.{within, bad_text}
-use Rattle.etx_expand.specs.Showing.{integer_text}
-use Rattle.etx_expand.specs.Taking.{amount_in, glue_in}
+use Rattle.etx_answers.specs.declared.plan.Did.TheVariants as did
+use Rattle.etx_answers.specs.declared.plan.Push.TheVariants as push
+use Rattle.etx_answers.specs.declared.plan.Start.{Start}
+use Rattle.etx_answers.specs.declared.plan.Then.TheVariants as afterwards
+use Rattle.etx_answers.specs.declared.plan.Ended.{Ended}
+use Rattle.etx_answers.specs.Answers.{Finished, starting, start_ends}
+use Rattle.etx_numbers.specs.Numbers.{integer, plain_length, glue_want}
+use Rattle.etx_numbers.specs.Outers.{within, bad_text}
+use Rattle.etx_answers.specs.Showing.{integer_text}
+use Rattle.etx_numbers.specs.Taking.{amount_in, glue_in}
 use Rattle.etx_assign.specs.Assignments.{key_of, assigned, with_fitting, over, value_over, failing}
 use Rattle.etx_assign.specs.Arithmetic.{is_glue, by_scan, change_taken}
 use Rattle.etx_assign.specs.Naming.{named, let_begun}

@@ -9,13 +9,11 @@ ghost use Rattle.etx_assign.specs.Arithmetic.{changed_primitive, changed_kind, c
 use crate::assignment::{over, set_fitting, value_over};
 use crate::begun::{DIMENSION, number_scan};
 use crate::numbers::{is_glue, kept_number, overflow};
-use etx_expand::{
-    Ended, INTEGER, Move, Plan, Spelled, Then, WordPlan, WordSet, amount_in, begins_word,
-    fails_before, finished, glue_in, has_category, number_row, quiet, spell,
-};
+use etx_answers::{Ended, Move, Plan, Then, WordPlan, fails_before, finished, has_category, quiet};
 use etx_exprs::Value as Quantity;
 use etx_keys::Class;
 use etx_matter::{Boxed, Glue, GlueOrder, Token};
+use etx_numbers::{INTEGER, Spelled, WordSet, amount_in, begins_word, glue_in, number_row, spell};
 use etx_prims::{ArithmeticKind, Primitive, RegisterKind};
 use etx_state::{
     AssignNumber, AssignScan, Key, Meaning, NumberFinish, NumberScan, Outers, Rest, Scan, Taker,

@@ -4,7 +4,7 @@ ghost use Rattle.etx_state.specs.Fits.{Fits};
 ghost use Rattle.etx_state.specs.Rests.{rest_of, with_values, Keeps};
 ghost use Rattle.etx_assign.specs.Assignments.{key_of, assigned, with_fitting, without_kept, over, scan_over, value_over, is_global_in, is_global_def_in};
 
-use etx_expand::{Ended, Insert, Move, Plan, Then, finished, insert_token, quiet};
+use etx_answers::{Ended, Insert, Move, Plan, Then, finished, insert_token, quiet};
 use etx_groups::{assign, assign_global};
 use etx_matter::Token;
 use etx_prims::IntParam;

@@ -1,13 +1,14 @@
 //! What assignments begin that take `\global` alone: values of parameters and registers, codes, names of characters and registers, and
 //! arithmetic.
 ghost use Rattle.std.specs.Prelude.{◌≡◌, IfOk};
-ghost use Rattle.etx_expand.specs.Answers.{starting};
-ghost use Rattle.etx_expand.specs.Numbers.{integer, glue_want};
+ghost use Rattle.etx_answers.specs.Answers.{starting};
+ghost use Rattle.etx_numbers.specs.Numbers.{integer, glue_want};
 ghost use Rattle.etx_assign.specs.Values.{register_scan, number_scan, value_scan, list_scan, register_begun, simple_begun};
 
 use crate::prefix::{let_begun, named};
-use etx_expand::{INTEGER, Push, Start, start_ends, starting};
+use etx_answers::{Push, Start, start_ends, starting};
 use etx_matter::{Boxed, End, Token};
+use etx_numbers::INTEGER;
 use etx_prims::{Primitive, RegisterKind};
 use etx_state::{
     AssignNumber, AssignScan, Key, Length, NameFor, NumberFinish, NumberScan, Outers, Rest, Scan,

@@ -6,7 +6,7 @@ ghost use Rattle.etx_assign.specs.Definitions.{mark_of, body_goes_on, body_or_ma
 
 use crate::definition::{definition_over, in_body, mark_of};
 use crate::parameters::with_mark;
-use etx_expand::{Move, Plan, fails_back, push_name, quiet};
+use etx_answers::{Move, Plan, fails_back, push_name, quiet};
 use etx_lists::Bytes;
 use etx_macros::{Brace, brace_of};
 use etx_matter::{Boxed, Token};

@@ -5,7 +5,7 @@ ghost use Rattle.etx_state.specs.Rests.{rest_of, Keeps};
 ghost use Rattle.etx_assign.specs.Definitions.{macro_of, defined, definition_over, without_body, definition_failed, mark_of, in_params, in_body};
 
 use crate::assignment::{key_of, over, scan_over, set, used};
-use etx_expand::{Did, Failure, Plan};
+use etx_answers::{Did, Failure, Plan};
 use etx_lists::Bytes;
 use etx_matter::{Boxed, SharedTokens, Token, Tokens};
 use etx_state::{AssignScan, Definition, Macro, Meaning, Rest, Scan, Val};

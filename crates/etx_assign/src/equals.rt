@@ -4,8 +4,9 @@ ghost use Rattle.etx_state.specs.Rests.{rest_of, Keeps};
 ghost use Rattle.etx_assign.specs.Meanings.{given_meaning, let_over, let_equals_row, let_space_row};
 
 use crate::assignment::{key_of, scan_over, set};
-use etx_expand::{Move, Plan, has_category, is_other, quiet};
+use etx_answers::{Move, Plan, has_category, quiet};
 use etx_matter::Token;
+use etx_numbers::is_other;
 use etx_state::{AssignScan, Meaning, Rest, Scan, Val};
 use std::alloc::AllocError;
 

@@ -7,10 +7,10 @@ ghost use Rattle.etx_state.specs.Reading.{tokens_at};
 
 use crate::assignment::{scan_over, set_fitting, value_over};
 use crate::begun::number_scan;
-use etx_expand::{
-    Ended, INTEGER, Move, Plan, fails_back, has_category, is_other, is_relax, quiet, text_for,
-};
+use etx_answers::{Ended, Move, Plan, fails_back, has_category, is_relax, quiet};
+use etx_expand::text_for;
 use etx_matter::{Boxed, SharedTokens, Token, Tokens};
+use etx_numbers::{INTEGER, is_other};
 use etx_prims::{Primitive, RegisterKind, TokenParam};
 use etx_state::{
     AssignNumber, AssignScan, AssignText, Key, Meaning, NumberScan, Rest, Scan, TextFinish,

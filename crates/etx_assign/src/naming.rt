@@ -5,10 +5,11 @@ ghost use Rattle.etx_assign.specs.Definitions.{relaxed, target_of, inaccessible,
 
 use crate::assignment::{key_of, set};
 use crate::begun::number_scan;
-use etx_expand::{INTEGER, Move, Plan, fails_back, quiet};
+use etx_answers::{Move, Plan, fails_back, quiet};
 use etx_lists::Bytes;
 use etx_macros::OpenPattern;
 use etx_matter::{Boxed, FROZEN_INACCESSIBLE, Token, Tokens};
+use etx_numbers::INTEGER;
 use etx_prims::Primitive;
 use etx_state::{
     AssignNumber, AssignScan, Definition, Meaning, NameFor, NumberScan, Prefixes, Rest, Scan, Val,

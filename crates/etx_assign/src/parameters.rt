@@ -7,7 +7,7 @@ ghost use Rattle.etx_assign.specs.Definitions.{with_mark, text_or_mark, params_b
 ghost use Rattle.etx_macros.specs.Marks.{brace_of};
 
 use crate::definition::{definition_failed, in_body, in_params, mark_of};
-use etx_expand::{Move, Plan, fails, fails_back, quiet};
+use etx_answers::{Move, Plan, fails, fails_back, quiet};
 use etx_macros::{Brace, brace_of};
 use etx_matter::{Boxed, Token};
 use etx_state::{Definition, Meaning, ParameterMark, Rest};

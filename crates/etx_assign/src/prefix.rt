@@ -1,9 +1,9 @@
 //! Prefixes, and what an assignment begins.
 ghost use Rattle.std.specs.Prelude.{◌≡◌, false, IfOk};
 ghost use Rattle.etx_state.specs.Rests.{rest_of};
-ghost use Rattle.etx_expand.specs.Printing.{shown_name};
+ghost use Rattle.etx_answers.specs.Printing.{shown_name};
 ghost use Rattle.etx_assign.specs.Assignments.{no_prefixes, with_prefix, is_for_definitions, is_assignment, definition_of, follower_of};
-ghost use Rattle.etx_expand.specs.Answers.{plan_of};
+ghost use Rattle.etx_answers.specs.Answers.{plan_of};
 ghost use Rattle.etx_assign.specs.Assignments.{is_global_in};
 ghost use Rattle.etx_assign.specs.Naming.{named, let_begun};
 ghost use Rattle.etx_assign.specs.Values.{register_begun};
@@ -11,7 +11,7 @@ ghost use Rattle.etx_assign.specs.Prefixes.{register_assigned, prefix_text, show
 
 use crate::assignment::{is_global_def_in, is_global_in, used};
 use crate::begun::{register_begun, simple_begun};
-use etx_expand::{
+use etx_answers::{
     Insert, Move, Plan, Push, Start, character_words, fails_back, plan_of, push_escaped,
     push_meaning, push_name, push_printed, quiet, start_fails_back, starting,
 };

@@ -2,7 +2,7 @@
 ghost use Rattle.std.specs.Prelude.{◌≡◌, OnOk, IfOk};
 ghost use Rattle.etx_state.specs.Rests.{rest_of, Keeps};
 ghost use Rattle.etx_state.specs.Mouths.{mouth_of};
-ghost use Rattle.etx_expand.specs.Answers.{quiet, used};
+ghost use Rattle.etx_answers.specs.Answers.{quiet, used};
 ghost use Rattle.etx_expand.specs.Moves.{entered, put_back, insert_if};
 ghost use Rattle.etx_assign.specs.Assignments.{over};
 ghost use Rattle.etx_assign.specs.Turn.{word_plan, assign_word_turn, text_turn, noted_in, kept_for_later, assign_row, assign_token, number_turn, future_over, future_token, future_idle, future_with, future_turn};
@@ -16,9 +16,10 @@ use crate::naming::name_row;
 use crate::numbers::number_taken;
 use crate::parameters::params_row;
 use crate::prefix::prefix_row;
+use etx_answers::{Move, Plan, Then, Turned, WordPlan, finished, quiet};
 use etx_expand::{
-    Fetched, Idle, Move, Plan, Then, Turned, WordPlan, do_alone, enter, error_deed, expand_token,
-    fetch_behind, finished, follow, insert_if, make, make_word, put_both_back, quiet,
+    Fetched, Idle, do_alone, enter, error_deed, expand_token, fetch_behind, follow, insert_if,
+    make, make_word, put_both_back,
 };
 use etx_exprs::Value as Quantity;
 use etx_groups::after;

@@ -14,8 +14,8 @@ use Rattle.etx_macros.proofs.Runs.{said_exactly, arguments_of, extra_exactly}
 use Rattle.etx_macros.proofs.Unique.{one_call}
 use Rattle.etx_state.specs.declared.scan.Call.{Call}
 use Rattle.etx_state.specs.Rests.{RestState}
-use Rattle.etx_expand.specs.declared.plan.Plan.{Plan}
-use Rattle.etx_expand.specs.Answers.{quiet, insert_of}
+use Rattle.etx_answers.specs.declared.plan.Plan.{Plan}
+use Rattle.etx_answers.specs.Answers.{quiet, insert_of}
 use Rattle.etx_expand.specs.Calls.{call_scan, extra_brace, goes_on, is_over, fed_by, call_row}
 
 -- a token of which more or all is said is no extra brace

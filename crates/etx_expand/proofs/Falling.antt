@@ -22,39 +22,39 @@ use Rattle.etx_state.specs.declared.scan.Entry.{Entry}
 use Rattle.etx_state.specs.declared.scan.Entry.TheVariants as entry
 use Rattle.etx_state.specs.Rests.{RestState}
 use Rattle.etx_state.specs.Mouths.{Mouth, with_rest}
-use Rattle.etx_expand.specs.declared.meaning.Expandable.{Expandable}
-use Rattle.etx_expand.specs.declared.meaning.Reading.{Reading}
-use Rattle.etx_expand.specs.declared.meaning.Reading.TheVariants as reading_as
+use Rattle.etx_answers.specs.declared.meaning.Expandable.{Expandable}
+use Rattle.etx_answers.specs.declared.meaning.Reading.{Reading}
+use Rattle.etx_answers.specs.declared.meaning.Reading.TheVariants as reading_as
 use Rattle.etx_expand.specs.declared.get.Got.{Got}
 use Rattle.etx_expand.specs.declared.get.Got.TheVariants as got
 use Rattle.etx_expand.specs.declared.fetch.Idle.{Idle}
 use Rattle.etx_expand.specs.declared.fetch.Idle.TheVariants as idle
 use Rattle.etx_expand.specs.declared.fetch.Fetched.{Fetched}
 use Rattle.etx_expand.specs.declared.fetch.Fetched.TheVariants as fetched
-use Rattle.etx_expand.specs.declared.plan.Insert.{Insert}
-use Rattle.etx_expand.specs.declared.plan.Insert.TheVariants as insert
-use Rattle.etx_expand.specs.declared.plan.Failure.{Failure}
-use Rattle.etx_expand.specs.declared.plan.Did.{Did}
-use Rattle.etx_expand.specs.declared.plan.Did.TheVariants as did
-use Rattle.etx_expand.specs.declared.plan.Move.{Move}
-use Rattle.etx_expand.specs.declared.plan.Move.TheVariants as move
-use Rattle.etx_expand.specs.declared.plan.Push.{Push}
-use Rattle.etx_expand.specs.declared.plan.Push.TheVariants as push
-use Rattle.etx_expand.specs.declared.plan.Then.{Then}
-use Rattle.etx_expand.specs.declared.plan.Then.TheVariants as afterwards
-use Rattle.etx_expand.specs.declared.plan.WordPlan.{WordPlan}
-use Rattle.etx_expand.specs.declared.plan.WordPlan.TheVariants as words
-use Rattle.etx_expand.specs.declared.plan.Ended.{Ended}
-use Rattle.etx_expand.specs.declared.plan.Turned.{Turned}
-use Rattle.etx_expand.specs.declared.plan.Turned.TheVariants as turned
-use Rattle.etx_expand.specs.Answers.{Planned, Begun, Finished, reading}
+use Rattle.etx_answers.specs.declared.plan.Insert.{Insert}
+use Rattle.etx_answers.specs.declared.plan.Insert.TheVariants as insert
+use Rattle.etx_answers.specs.declared.plan.Failure.{Failure}
+use Rattle.etx_answers.specs.declared.plan.Did.{Did}
+use Rattle.etx_answers.specs.declared.plan.Did.TheVariants as did
+use Rattle.etx_answers.specs.declared.plan.Move.{Move}
+use Rattle.etx_answers.specs.declared.plan.Move.TheVariants as move
+use Rattle.etx_answers.specs.declared.plan.Push.{Push}
+use Rattle.etx_answers.specs.declared.plan.Push.TheVariants as push
+use Rattle.etx_answers.specs.declared.plan.Then.{Then}
+use Rattle.etx_answers.specs.declared.plan.Then.TheVariants as afterwards
+use Rattle.etx_answers.specs.declared.plan.WordPlan.{WordPlan}
+use Rattle.etx_answers.specs.declared.plan.WordPlan.TheVariants as words
+use Rattle.etx_answers.specs.declared.plan.Ended.{Ended}
+use Rattle.etx_answers.specs.declared.plan.Turned.{Turned}
+use Rattle.etx_answers.specs.declared.plan.Turned.TheVariants as turned
+use Rattle.etx_answers.specs.Answers.{Planned, Begun, Finished, reading}
 use Rattle.etx_expand.specs.Moves.{After, after, charged, read_next, put_back, entered, scanning, most_stages, inserted, back_if, insert_if, failed, beside, beside_value, error_deed, turned_by, made, planned_turn, pushed, begun_turn, more, more_given, followed, finished_turn, letters_back, charged_if, letter_kept, word_turn}
 use Rattle.etx_expand.specs.Getting.{Getting, watch_by, watch_of, got_of}
 use Rattle.etx_expand.specs.Calls.{cut_off}
-use Rattle.etx_expand.specs.Meanings.{reading_of, keeper_reading, wanted}
+use Rattle.etx_answers.specs.Meanings.{reading_of, keeper_reading, wanted}
 use Rattle.etx_expand.specs.Measure.{turn_weight, say_weight, given_weight, scan_weight, stage_weight, begun_weight, back_weight, held_weight, letters_weight, tokens_weight, levels_weight, entry_weight, weight, Steps, PaidFor, PaysFor, Falls, Comes, Goes}
 use Rattle.etx_expand.specs.Turn.{Fetching, wanted_as, fetched_as, fetched_by, scan_fetched, keeper_fetched, main_fetched, expanded_turn, idle_turn, expansion_row, expansion_token, number_token, text_token, kept_idle, kept_with, expand_after_turn, due_turn, say_turn}
-use Rattle.etx_expand.specs.Expressions.{number_row}
+use Rattle.etx_numbers.specs.Expressions.{number_row}
 use Rattle.etx_expand.specs.Expanding.{expansion_begun}
 use Rattle.etx_expand.specs.Texts.{text_row}
 use Rattle.etx_state.specs.declared.key.Meaning.{Meaning}

@@ -23,9 +23,9 @@ use Rattle.etx_expand.specs.declared.get.Watch.{Watch}
 use Rattle.etx_expand.specs.declared.get.Watch.TheVariants as watch
 use Rattle.etx_expand.specs.declared.get.Got.{Got}
 use Rattle.etx_expand.specs.declared.get.Got.TheVariants as got
-use Rattle.etx_expand.specs.declared.plan.Did.TheVariants as did
+use Rattle.etx_answers.specs.declared.plan.Did.TheVariants as did
 use Rattle.etx_expand.specs.Moves.{charged, charge_of, turned_by}
-use Rattle.etx_expand.specs.Meanings.{is_outer}
+use Rattle.etx_answers.specs.Meanings.{is_outer}
 use Rattle.etx_expand.specs.Getting.{Getting, getting, forbidden, admitted, token_got, name_got, lexed_got, next_got, file_ended, got_of}
 use Rattle.etx_expand.specs.Measure.{file_weight, back_weight, tokens_weight, levels_weight, weight, Steps, Falls, Comes}
 

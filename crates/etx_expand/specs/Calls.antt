@@ -14,13 +14,13 @@ use Rattle.etx_state.specs.declared.scan.ExpansionScan.TheVariants as expansion
 use Rattle.etx_state.specs.declared.scan.Scan.{Scan}
 use Rattle.etx_state.specs.declared.scan.Scan.TheVariants as scan
 use Rattle.etx_state.specs.Rests.{RestState}
-use Rattle.etx_expand.specs.declared.plan.Insert.{Insert}
-use Rattle.etx_expand.specs.declared.plan.Move.{Move}
-use Rattle.etx_expand.specs.declared.plan.Move.TheVariants.{Used, Stay, Copied, CopiedLast}
-use Rattle.etx_expand.specs.declared.plan.Plan.{Plan}
-use Rattle.etx_expand.specs.Answers.{quiet, used, fails, fails_back, fails_under, insert_of}
+use Rattle.etx_answers.specs.declared.plan.Insert.{Insert}
+use Rattle.etx_answers.specs.declared.plan.Move.{Move}
+use Rattle.etx_answers.specs.declared.plan.Move.TheVariants.{Used, Stay, Copied, CopiedLast}
+use Rattle.etx_answers.specs.declared.plan.Plan.{Plan}
+use Rattle.etx_answers.specs.Answers.{quiet, used, fails, fails_back, fails_under, insert_of}
 use Rattle.etx_expand.specs.Getting.{par}
-use Rattle.etx_expand.specs.Printing.{shown_name}
+use Rattle.etx_answers.specs.Printing.{shown_name}
 
 abbrev pub call_scan : Call → Scan
 call_scan c = scan.Expansion (expansion.Call c)

@@ -9,17 +9,17 @@ use Rattle.etx_state.specs.declared.scan.ExpansionNumber.TheVariants as takes
 use Rattle.etx_state.specs.declared.scan.ExpansionText.{ExpansionText}
 use Rattle.etx_state.specs.declared.scan.ExpansionText.TheVariants as texts
 use Rattle.etx_state.specs.Rests.{RestState}
-use Rattle.etx_expand.specs.declared.plan.Insert.{Insert}
-use Rattle.etx_expand.specs.declared.plan.Move.TheVariants as move
-use Rattle.etx_expand.specs.declared.plan.Plan.{Plan}
-use Rattle.etx_expand.specs.declared.plan.Then.TheVariants as afterwards
-use Rattle.etx_expand.specs.declared.plan.Ended.{Ended}
-use Rattle.etx_expand.specs.Answers.{Finished, quiet, quiet_end, insert_of}
-use Rattle.etx_expand.specs.Conditionals.{decided, ended_decided, first_taken, holds, is_odd, case_taken}
-use Rattle.etx_expand.specs.Printing.{character_tokens, tokens_text}
-use Rattle.etx_expand.specs.Reads.{kept_by}
-use Rattle.etx_expand.specs.Showing.{integer_text, roman_text, amount_text, meaning_text}
-use Rattle.etx_expand.specs.Taking.{amount_in}
+use Rattle.etx_answers.specs.declared.plan.Insert.{Insert}
+use Rattle.etx_answers.specs.declared.plan.Move.TheVariants as move
+use Rattle.etx_answers.specs.declared.plan.Plan.{Plan}
+use Rattle.etx_answers.specs.declared.plan.Then.TheVariants as afterwards
+use Rattle.etx_answers.specs.declared.plan.Ended.{Ended}
+use Rattle.etx_answers.specs.Answers.{Finished, quiet, quiet_end, insert_of}
+use Rattle.etx_conditionals.specs.Conditionals.{decided, ended_decided, first_taken, holds, is_odd, case_taken}
+use Rattle.etx_answers.specs.Printing.{character_tokens, tokens_text}
+use Rattle.etx_answers.specs.Reads.{kept_by}
+use Rattle.etx_answers.specs.Showing.{integer_text, roman_text, amount_text, meaning_text}
+use Rattle.etx_numbers.specs.Taking.{amount_in}
 
 -- characters are read next
 abbrev pub written : List ℕ → Insert

@@ -7,11 +7,11 @@ use Rattle.etx_state.specs.declared.scan.ExpansionScan.{ExpansionScan}
 use Rattle.etx_state.specs.declared.scan.ExpansionScan.TheVariants as expansion
 use Rattle.etx_state.specs.declared.scan.Scan.TheVariants as scan
 use Rattle.etx_state.specs.Macros.{MacroState}
-use Rattle.etx_expand.specs.declared.meaning.Expandable.{Expandable}
-use Rattle.etx_expand.specs.declared.meaning.Expandable.TheVariants as expandable
-use Rattle.etx_expand.specs.declared.plan.Insert.TheVariants as insert
-use Rattle.etx_expand.specs.declared.plan.Push.TheVariants as push
-use Rattle.etx_expand.specs.declared.plan.Start.{Start}
+use Rattle.etx_answers.specs.declared.meaning.Expandable.{Expandable}
+use Rattle.etx_answers.specs.declared.meaning.Expandable.TheVariants as expandable
+use Rattle.etx_answers.specs.declared.plan.Insert.TheVariants as insert
+use Rattle.etx_answers.specs.declared.plan.Push.TheVariants as push
+use Rattle.etx_answers.specs.declared.plan.Start.{Start}
 use Rattle.etx_state.specs.declared.scan.ExpansionNumber.{ExpansionNumber}
 use Rattle.etx_state.specs.declared.scan.ExpansionNumber.TheVariants as takes
 use Rattle.etx_state.specs.declared.scan.ExpansionText.{ExpansionText}
@@ -20,10 +20,10 @@ use Rattle.etx_state.specs.declared.scan.TextFinish.TheVariants as finish
 use Rattle.etx_state.specs.declared.taker.Want.{Want}
 use Rattle.etx_state.specs.declared.taker.Want.TheVariants as want
 use Rattle.etx_state.specs.Rests.{RestState}
-use Rattle.etx_expand.specs.Answers.{Begun, starting, nothing, start_ends, start_fails}
-use Rattle.etx_expand.specs.Conditionals.{number_for, if_begun, fi_or_else_begun}
+use Rattle.etx_answers.specs.Answers.{Begun, starting, nothing, start_ends, start_fails}
+use Rattle.etx_conditionals.specs.Conditionals.{number_for, if_begun, fi_or_else_begun}
 use Rattle.etx_expand.specs.Converting.{written}
-use Rattle.etx_expand.specs.Numbers.{integer}
+use Rattle.etx_numbers.specs.Numbers.{integer}
 use Rattle.etx_expand.specs.Texts.{text_for}
 
 abbrev pub scan_begun : ExpansionScan → Start

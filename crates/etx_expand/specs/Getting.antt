@@ -28,11 +28,11 @@ use Rattle.etx_expand.specs.declared.get.Watch.{Watch}
 use Rattle.etx_expand.specs.declared.get.Watch.TheVariants as watch
 use Rattle.etx_expand.specs.declared.get.Got.{Got}
 use Rattle.etx_expand.specs.declared.get.Got.TheVariants as got
-use Rattle.etx_expand.specs.declared.plan.Did.{Did}
-use Rattle.etx_expand.specs.declared.plan.Did.TheVariants as did
+use Rattle.etx_answers.specs.declared.plan.Did.{Did}
+use Rattle.etx_answers.specs.declared.plan.Did.TheVariants as did
 use Rattle.etx_expand.specs.Moves.{charge_of, charged, read_next, put_back}
-use Rattle.etx_expand.specs.Meanings.{is_outer, unexpanded}
-use Rattle.etx_expand.specs.Printing.{shown_name, printed, escape_in}
+use Rattle.etx_answers.specs.Meanings.{is_outer, unexpanded}
+use Rattle.etx_answers.specs.Printing.{shown_name, printed, escape_in}
 use Rattle.std.specs.Fmt.{decimal}
 use Rattle.etx_prims.specs.Expansion.{if_name}
 use Rattle.etx_state.specs.declared.condition.Condition.{Condition}

@@ -11,8 +11,8 @@ use Rattle.etx_input.specs.Levels.{InputState}
 use Rattle.etx_state.specs.declared.scan.Entry.{Entry}
 use Rattle.etx_state.specs.declared.scan.Entry.TheVariants as entry
 use Rattle.etx_state.specs.Mouths.{Mouth}
-use Rattle.etx_expand.specs.declared.plan.Turned.{Turned}
-use Rattle.etx_expand.specs.declared.plan.Turned.TheVariants as turned
+use Rattle.etx_answers.specs.declared.plan.Turned.{Turned}
+use Rattle.etx_answers.specs.declared.plan.Turned.TheVariants as turned
 use Rattle.etx_expand.specs.declared.fetch.Idle.TheVariants as idle
 use Rattle.etx_expand.specs.declared.fetch.Fetched.{Fetched}
 use Rattle.etx_expand.specs.declared.fetch.Fetched.TheVariants as fetched

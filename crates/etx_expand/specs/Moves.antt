@@ -10,23 +10,23 @@ use Rattle.etx_state.specs.declared.scan.Scan.{Scan}
 use Rattle.etx_state.specs.declared.scan.Entry.{Entry}
 use Rattle.etx_state.specs.declared.scan.Entry.TheVariants as entry
 use Rattle.etx_state.specs.Mouths.{Mouth, with_rest, with_input}
-use Rattle.etx_expand.specs.declared.plan.Insert.{Insert}
-use Rattle.etx_expand.specs.declared.plan.Insert.TheVariants as insert
-use Rattle.etx_expand.specs.declared.plan.Failure.{Failure}
-use Rattle.etx_expand.specs.declared.plan.Did.{Did}
-use Rattle.etx_expand.specs.declared.plan.Did.TheVariants as did
-use Rattle.etx_expand.specs.declared.plan.Move.{Move}
-use Rattle.etx_expand.specs.declared.plan.Move.TheVariants as move
-use Rattle.etx_expand.specs.declared.plan.Push.{Push}
-use Rattle.etx_expand.specs.declared.plan.Push.TheVariants as push
-use Rattle.etx_expand.specs.declared.plan.WordPlan.{WordPlan}
-use Rattle.etx_expand.specs.declared.plan.WordPlan.TheVariants as words
+use Rattle.etx_answers.specs.declared.plan.Insert.{Insert}
+use Rattle.etx_answers.specs.declared.plan.Insert.TheVariants as insert
+use Rattle.etx_answers.specs.declared.plan.Failure.{Failure}
+use Rattle.etx_answers.specs.declared.plan.Did.{Did}
+use Rattle.etx_answers.specs.declared.plan.Did.TheVariants as did
+use Rattle.etx_answers.specs.declared.plan.Move.{Move}
+use Rattle.etx_answers.specs.declared.plan.Move.TheVariants as move
+use Rattle.etx_answers.specs.declared.plan.Push.{Push}
+use Rattle.etx_answers.specs.declared.plan.Push.TheVariants as push
+use Rattle.etx_answers.specs.declared.plan.WordPlan.{WordPlan}
+use Rattle.etx_answers.specs.declared.plan.WordPlan.TheVariants as words
 use Rattle.etx_state.specs.declared.scan.Value.{Value}
-use Rattle.etx_expand.specs.declared.plan.Then.{Then}
-use Rattle.etx_expand.specs.declared.plan.Then.TheVariants as afterwards
-use Rattle.etx_expand.specs.declared.plan.Turned.{Turned}
-use Rattle.etx_expand.specs.declared.plan.Turned.TheVariants as turned
-use Rattle.etx_expand.specs.Answers.{Planned, Begun, Finished}
+use Rattle.etx_answers.specs.declared.plan.Then.{Then}
+use Rattle.etx_answers.specs.declared.plan.Then.TheVariants as afterwards
+use Rattle.etx_answers.specs.declared.plan.Turned.{Turned}
+use Rattle.etx_answers.specs.declared.plan.Turned.TheVariants as turned
+use Rattle.etx_answers.specs.Answers.{Planned, Begun, Finished}
 
 -- the mouth behind a turn, and what the turn came to
 pub record After : Type 0 where

@@ -14,12 +14,12 @@ use Rattle.etx_state.specs.declared.scan.Scan.TheVariants as scan
 use Rattle.etx_state.specs.Values.{assign}
 use Rattle.etx_state.specs.Reading.{meaning_in}
 use Rattle.etx_state.specs.Rests.{RestState, with_values, number_of, with_name, has_room}
-use Rattle.etx_expand.specs.declared.plan.Insert.TheVariants as insert
-use Rattle.etx_expand.specs.declared.plan.Move.{Move}
-use Rattle.etx_expand.specs.declared.plan.Move.TheVariants.{Used, Copied}
-use Rattle.etx_expand.specs.declared.plan.Plan.{Plan}
-use Rattle.etx_expand.specs.Answers.{Planned, planned, reading, quiet, used, ends, fails_under, insert_of}
-use Rattle.etx_expand.specs.Printing.{spelled, character_tokens}
+use Rattle.etx_answers.specs.declared.plan.Insert.TheVariants as insert
+use Rattle.etx_answers.specs.declared.plan.Move.{Move}
+use Rattle.etx_answers.specs.declared.plan.Move.TheVariants.{Used, Copied}
+use Rattle.etx_answers.specs.declared.plan.Plan.{Plan}
+use Rattle.etx_answers.specs.Answers.{Planned, planned, reading, quiet, used, ends, fails_under, insert_of}
+use Rattle.etx_answers.specs.Printing.{spelled, character_tokens}
 
 -- a name that means nothing becomes \relax, in the innermost group
 abbrev pub relaxed : ℕ → Meaning → RestState → RestState

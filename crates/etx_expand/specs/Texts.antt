@@ -12,11 +12,11 @@ use Rattle.etx_state.specs.declared.scan.TextFinish.{TextFinish}
 use Rattle.etx_state.specs.declared.scan.Scan.{Scan}
 use Rattle.etx_state.specs.declared.scan.Scan.TheVariants as scan
 use Rattle.etx_state.specs.declared.scan.Value.TheVariants as value
-use Rattle.etx_expand.specs.declared.plan.Move.{Move}
-use Rattle.etx_expand.specs.declared.plan.Move.TheVariants.{Stay, Copied, Gives}
-use Rattle.etx_expand.specs.declared.plan.Plan.{Plan}
-use Rattle.etx_expand.specs.Answers.{quiet, fails_back}
-use Rattle.etx_expand.specs.Meanings.{has_category, is_relax}
+use Rattle.etx_answers.specs.declared.plan.Move.{Move}
+use Rattle.etx_answers.specs.declared.plan.Move.TheVariants.{Stay, Copied, Gives}
+use Rattle.etx_answers.specs.declared.plan.Plan.{Plan}
+use Rattle.etx_answers.specs.Answers.{quiet, fails_back}
+use Rattle.etx_answers.specs.Meanings.{has_category, is_relax}
 
 -- a text that this control sequence reads, expanded or not, before its left brace
 abbrev pub text_for : Token → Bool → OpenText

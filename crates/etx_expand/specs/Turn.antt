@@ -24,30 +24,30 @@ use Rattle.etx_state.specs.declared.scan.Scan.TheVariants as scan
 use Rattle.etx_state.specs.declared.scan.Entry.TheVariants as entry
 use Rattle.etx_state.specs.Rests.{RestState}
 use Rattle.etx_state.specs.Mouths.{Mouth, with_rest}
-use Rattle.etx_expand.specs.declared.meaning.Expandable.{Expandable}
-use Rattle.etx_expand.specs.declared.meaning.Reading.{Reading}
-use Rattle.etx_expand.specs.declared.meaning.Reading.TheVariants as reading_as
+use Rattle.etx_answers.specs.declared.meaning.Expandable.{Expandable}
+use Rattle.etx_answers.specs.declared.meaning.Reading.{Reading}
+use Rattle.etx_answers.specs.declared.meaning.Reading.TheVariants as reading_as
 use Rattle.etx_expand.specs.declared.get.Got.{Got}
 use Rattle.etx_expand.specs.declared.get.Got.TheVariants as got
 use Rattle.etx_expand.specs.declared.fetch.Idle.{Idle}
 use Rattle.etx_expand.specs.declared.fetch.Idle.TheVariants as idle
 use Rattle.etx_expand.specs.declared.fetch.Fetched.{Fetched}
 use Rattle.etx_expand.specs.declared.fetch.Fetched.TheVariants as fetched
-use Rattle.etx_expand.specs.declared.plan.Move.TheVariants as move
-use Rattle.etx_expand.specs.declared.plan.Turned.TheVariants as turned
-use Rattle.etx_expand.specs.Answers.{Planned, planned, reading}
+use Rattle.etx_answers.specs.declared.plan.Move.TheVariants as move
+use Rattle.etx_answers.specs.declared.plan.Turned.TheVariants as turned
+use Rattle.etx_answers.specs.Answers.{Planned, planned, reading}
 use Rattle.etx_expand.specs.Moves.{After, after, entered, scanning, put_back, planned_turn, begun_turn, finished_turn, word_turn, turned_by, error_deed}
 use Rattle.etx_expand.specs.Getting.{Getting, watch_by, watch_of, got_of}
-use Rattle.etx_expand.specs.Meanings.{reading_of, keeper_reading, wanted}
+use Rattle.etx_answers.specs.Meanings.{reading_of, keeper_reading, wanted}
 use Rattle.etx_expand.specs.Expanding.{expansion_begun}
 use Rattle.etx_expand.specs.Calls.{call_row, cut_off}
 use Rattle.etx_expand.specs.Names.{cs_name_row, string_row}
 use Rattle.etx_expand.specs.Texts.{text_row}
-use Rattle.etx_expand.specs.Conditionals.{decided, plan_decided, is_same, first_character_row, second_character_row, relation_row, defined_row, if_cs_name_row, skip_row, unless_row}
+use Rattle.etx_conditionals.specs.Conditionals.{decided, plan_decided, is_same, first_character_row, second_character_row, relation_row, defined_row, if_cs_name_row, skip_row, unless_row}
 use Rattle.etx_expand.specs.Converting.{meaning_row, number_given, text_given}
-use Rattle.etx_expand.specs.Dimensions.{WordPlanned, number_word_row}
-use Rattle.etx_expand.specs.Expressions.{number_row}
-use Rattle.etx_expand.specs.Outers.{outer_row}
+use Rattle.etx_numbers.specs.Dimensions.{WordPlanned, number_word_row}
+use Rattle.etx_numbers.specs.Expressions.{number_row}
+use Rattle.etx_numbers.specs.Outers.{outer_row}
 
 -- ---- a token for whoever waits
 

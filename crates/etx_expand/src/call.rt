@@ -3,12 +3,12 @@ ghost use Rattle.std.specs.Prelude.{◌≡◌, ◌++◌, ◌∷◌, [], true, fa
 ghost use Rattle.etx_macros.specs.Feeding.{fed_of, is_copied, unmatched};
 ghost use Rattle.etx_macros.specs.Substituting.{substituted};
 ghost use Rattle.etx_state.specs.Rests.{rest_of};
-ghost use Rattle.etx_expand.specs.Answers.{quiet, insert_of};
+ghost use Rattle.etx_answers.specs.Answers.{quiet, insert_of};
 ghost use Rattle.etx_expand.specs.Calls.{call_scan, naming, extra_brace, paragraph_ended, does_not_match, refused, goes_on, is_over, fed_by, call_row, expansion_cut, cut_off};
 
-use crate::answers::{fails, fails_back, fails_under, insert_tokens, quiet, used};
-use crate::plan::{Insert, Move, Plan};
-use crate::printing::push_name;
+use etx_answers::{
+    Insert, Move, Plan, fails, fails_back, fails_under, insert_tokens, push_name, quiet, used,
+};
 use etx_lists::Bytes;
 use etx_macros::{Fed, MatchFault, substitute};
 use etx_matter::{Boxed, PAR, Token};

@@ -1,20 +1,20 @@
 //! What expansion writes: numbers, meanings, lists of tokens and their characters.
 ghost use Rattle.std.specs.Prelude.{◌≡◌, IfOk, OnOk};
 ghost use Rattle.etx_state.specs.Rests.{Keeps, rest_of};
-ghost use Rattle.etx_expand.specs.Answers.{starting, quiet_end};
-ghost use Rattle.etx_expand.specs.Showing.{integer_text, roman_text, amount_text};
-ghost use Rattle.etx_expand.specs.Reads.{kept_by};
+ghost use Rattle.etx_answers.specs.Answers.{starting, quiet_end};
+ghost use Rattle.etx_answers.specs.Showing.{integer_text, roman_text, amount_text};
+ghost use Rattle.etx_answers.specs.Reads.{kept_by};
 ghost use Rattle.etx_expand.specs.Converting.{written, text_ended, meaning_row, number_given, text_given};
 
-use crate::answers::{finished, insert_tokens, quiet, starting};
-use crate::conditionals::{case_taken, first_taken, odd_taken, second_taken};
-use crate::plan::{Ended, Insert, Move, Plan, Push, Start, Then};
-use crate::printing::{character_tokens, text_of_tokens};
-use crate::showing::{push_amount, push_integer, push_meaning_text, push_roman};
-use crate::taking::amount_in;
+use etx_answers::{
+    Ended, Insert, Move, Plan, Push, Start, Then, character_tokens, finished, insert_tokens,
+    push_amount, push_integer, push_meaning_text, push_roman, quiet, starting, text_of_tokens,
+};
+use etx_conditionals::{case_taken, first_taken, odd_taken, second_taken};
 use etx_exprs::Value as Quantity;
 use etx_lists::Bytes;
 use etx_matter::{Boxed, SharedTokens, Tokens};
+use etx_numbers::amount_in;
 use etx_state::{ExpansionNumber, ExpansionText, Meaning, Rest};
 use std::alloc::{AllocError, Global};
 

@@ -4,17 +4,14 @@ ghost use Rattle.etx_state.specs.Rests.{Keeps, rest_of};
 ghost use Rattle.etx_macros.specs.Feeding.{started};
 ghost use Rattle.etx_expand.specs.Expanding.{scan_begun, is_plain, macro_begun, undefined, number_begun, text_begun, expansion_begun};
 
-use crate::answers::{nothing, start_ends, start_fails, starting};
-use crate::conditionals::{if_begun, number_for};
 use crate::converting::text_begun;
-use crate::meaning::Expandable;
-use crate::numbers::INTEGER;
-use crate::plan::{Insert, Push, Start};
-use crate::skips::fi_or_else_begun;
 use crate::texts::text_for;
+use etx_answers::{Expandable, Insert, Push, Start, nothing, start_ends, start_fails, starting};
+use etx_conditionals::{fi_or_else_begun, if_begun, number_for};
 use etx_lists::Bytes;
 use etx_macros::{Matcher, Pattern};
 use etx_matter::{Boxed, End, Token};
+use etx_numbers::INTEGER;
 use etx_state::{
     Call, ExpansionNumber, ExpansionScan, ExpansionText, Macro, Rest, Scan, TextFinish, Want,
 };

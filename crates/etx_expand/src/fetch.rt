@@ -8,9 +8,8 @@ ghost use Rattle.etx_expand.specs.Turn.{wanted_as, fetched_as, scan_fetched, kee
 use crate::call::cut_off;
 use crate::expand::expansion_begun;
 use crate::get::{Got, get};
-use crate::meaning::{Expandable, Reading, keeper_reading, reading_of, wanted};
 use crate::moves::{begin, do_alone, enter_scan, error_deed};
-use crate::plan::{Did, Turned};
+use etx_answers::{Did, Expandable, Reading, Turned, keeper_reading, reading_of, wanted};
 use etx_lists::Bytes;
 use etx_matter::Token;
 use etx_state::{Keeper, Meaning, Scan, State};

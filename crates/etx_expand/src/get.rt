@@ -4,14 +4,11 @@ ghost use Rattle.std.specs.Option.{option_copied};
 ghost use Rattle.etx_state.specs.Rests.{rest_of};
 ghost use Rattle.etx_state.specs.Mouths.{mouth_of};
 ghost use Rattle.etx_expand.specs.Moves.{read_next, charge_of, charged};
-ghost use Rattle.etx_expand.specs.Printing.{shown_name};
+ghost use Rattle.etx_answers.specs.Printing.{shown_name};
 ghost use Rattle.etx_expand.specs.Getting.{reported, condition_text, skipped, expansion_watch, assign_watch, watch_by, watch_at, watch_of, watched_from, watched, ending_of, forbidden, file_ended, admitted, token_got, name_got, lexed_got, next_got, invalid_did, got_of};
 
-use crate::meaning::{is_outer, unexpanded};
 use crate::moves::{count, put_back, read_one};
-use crate::plan::{Did, Failure};
-use crate::printing::{push_escaped, push_name};
-use crate::showing::push_natural;
+use etx_answers::{Did, Failure, is_outer, push_escaped, push_name, push_natural, unexpanded};
 use etx_input::{Next, Origin};
 use etx_lexer::Lexed;
 use etx_lists::Bytes;

@@ -3,11 +3,11 @@ ghost use Rattle.std.specs.Prelude.{◌≡◌, ◌+◌, ◌<◌, ◌^◌, ◌∷
 ghost use Rattle.etx_matter.specs.declared.deed.Audience.TheVariants.{LogAndTerminal};
 ghost use Rattle.etx_matter.specs.declared.deed.Deed.TheVariants as deed;
 ghost use Rattle.etx_state.specs.Mouths.{mouth_of};
-ghost use Rattle.etx_expand.specs.declared.plan.Turned.TheVariants as turned;
-ghost use Rattle.etx_expand.specs.Answers.{reading};
+ghost use Rattle.etx_answers.specs.declared.plan.Turned.TheVariants as turned;
+ghost use Rattle.etx_answers.specs.Answers.{reading};
 ghost use Rattle.etx_expand.specs.Moves.{charged, put_back, read_next, entered, scanning, inserted, back_if, insert_if, failed, beside, beside_value, error_deed, turned_by, made, planned_turn, pushed, begun_turn, more, more_given, followed, finished_turn, letters_back, charged_if, letter_kept, word_turn};
 
-use crate::plan::{Did, Ended, Failure, Insert, Move, Plan, Push, Start, Then, Turned, WordPlan};
+use etx_answers::{Did, Ended, Failure, Insert, Move, Plan, Push, Start, Then, Turned, WordPlan};
 use etx_input::Origin;
 use etx_lists::Bytes;
 use etx_matter::{Audience, Boxed, Deed, SharedTokens, Token, Tokens};

@@ -2,12 +2,12 @@
 ghost use Rattle.std.specs.Prelude.{◌≡◌, ◌++◌, ◌∷◌, [], true, false, MatchOption, OnOk, IfOk};
 ghost use Rattle.etx_state.specs.Reading.{meaning_in};
 ghost use Rattle.etx_state.specs.Rests.{Keeps, rest_of, number_of, has_room};
-ghost use Rattle.etx_expand.specs.Answers.{quiet};
+ghost use Rattle.etx_answers.specs.Answers.{quiet};
 ghost use Rattle.etx_expand.specs.Names.{relaxed, name_made, name_over, name_ended, cs_name_row, string_row};
 
-use crate::answers::{ends, fails_under, insert_tokens, quiet, used};
-use crate::plan::{Insert, Move, Plan};
-use crate::printing::{character_tokens, spell};
+use etx_answers::{
+    Insert, Move, Plan, character_tokens, ends, fails_under, insert_tokens, quiet, spell, used,
+};
 use etx_groups::assign;
 use etx_lists::Bytes;
 use etx_matter::{Boxed, End, Limit, NameId, Token};

@@ -1,12 +1,10 @@
 //! Texts in braces.
 ghost use Rattle.std.specs.Prelude.{◌≡◌, ◌++◌, ◌∷◌, [], OnOk, IfOk};
 ghost use Rattle.etx_macros.specs.Marks.{brace_of};
-ghost use Rattle.etx_expand.specs.Answers.{quiet};
+ghost use Rattle.etx_answers.specs.Answers.{quiet};
 ghost use Rattle.etx_expand.specs.Texts.{text_for, is_blank, inside, before_text_row, text_goes_on, inside_by, text_by, text_row};
 
-use crate::answers::{fails_back, quiet};
-use crate::meaning::{has_category, is_relax};
-use crate::plan::{Move, Plan};
+use etx_answers::{Move, Plan, fails_back, has_category, is_relax, quiet};
 use etx_macros::{Brace, brace_of};
 use etx_matter::{Boxed, Token, Tokens};
 use etx_state::{Meaning, OpenText, Scan, TextFinish, TextPlace, Value};

@@ -5,26 +5,21 @@ ghost use Rattle.etx_state.specs.Mouths.{mouth_of};
 ghost use Rattle.etx_expand.specs.Moves.{entered, put_back, turned_by, error_deed};
 ghost use Rattle.etx_expand.specs.Turn.{expansion_row, expansion_token, number_token, text_token, number_word_turn, outer_turn, expansion_number_turn, expansion_text_turn, expanded_turn, kept_idle, kept_with, expand_after_turn, due_turn, say_turn};
 
-use crate::answers::quiet;
 use crate::call::call_row;
-use crate::conditionals::{
-    defined_row, first_character_row, first_meaning_row, if_cs_name_row, relation_row,
-    second_character_row, second_meaning_row, unless_row,
-};
 use crate::converting::{meaning_row, number_given, text_given};
-use crate::dimensions::number_word_row;
-use crate::expressions::outer_row;
 use crate::fetch::{Fetched, Idle, expand_token, fetch_behind};
-use crate::meaning::Expandable;
 use crate::moves::{do_alone, enter, error_deed, follow, make, make_word, put_back};
 use crate::names::{cs_name_row, string_row};
-use crate::numbers::number_row;
-use crate::plan::{Move, Plan, Turned};
-use crate::skips::skip_row;
 use crate::texts::text_row;
+use etx_answers::{Expandable, Move, Plan, Turned, quiet};
+use etx_conditionals::{
+    defined_row, first_character_row, first_meaning_row, if_cs_name_row, relation_row,
+    second_character_row, second_meaning_row, skip_row, unless_row,
+};
 use etx_exprs::Value as Quantity;
 use etx_lists::Bytes;
 use etx_matter::{Audience, Boxed, Deed, GlueOrder, Token, Tokens};
+use etx_numbers::{number_row, number_word_row, outer_row};
 use etx_state::{
     Entry, ExpansionNumber, ExpansionScan, ExpansionText, Keeper, Meaning, NumberScan, OpenText,
     Outer, Rest, State, Taker, TextFinish,

@@ -7,12 +7,14 @@ use Rattle.etx_outside.proofs.Outsides.{front_behind, front_longer}
 use Rattle.etx_settle.specs.Deeds.{JournalState, entries}
 use Rattle.etx_matter.specs.declared.deed.Deed.{Deed}
 use Rattle.etx_matter.specs.declared.end.End.TheVariants.{Hundred}
-use Rattle.etx_job.specs.Mouths.{MouthState}
-use Rattle.etx_job.specs.Turn.{line_number_of}
-use Rattle.etx_job.specs.Errors.{is_error, most_errors}
+use Rattle.etx_mouth.specs.Mouths.{MouthState}
+use Rattle.etx_mouth.specs.Turn.{line_number_of}
+use Rattle.etx_mouth.specs.Errors.{is_error}
+use Rattle.etx_job.specs.Errors.{most_errors}
 use Rattle.etx_job.specs.Chain.{Start, World, closing, ended, with_error, unless_last, counted, chain}
 use Rattle.etx_job.specs.Going.{more_waiting, world_of, Going, Over, Acts, Cut}
-use Rattle.etx_job.proofs.Turns.{flushed, waiting_more, world_flushed, now_flushed, lt_true, lt_false}
+use Rattle.etx_mouth.proofs.Comparing.{lt_true, lt_false}
+use Rattle.etx_job.proofs.Turns.{flushed, waiting_more, world_flushed, now_flushed}
 
 -- how a world's trace goes on
 pub record Grows (old new : World) : Type 0 where

@@ -6,13 +6,13 @@ use Rattle.etx_matter.specs.Jobs.{JobState}
 use Rattle.etx_matter.specs.declared.end.End.{End}
 use Rattle.etx_matter.specs.declared.end.End.TheVariants as end
 use Rattle.etx_matter.specs.declared.end.Status.TheVariants.{Spent}
-use Rattle.etx_job.specs.declared.yields.Yield.{Yield}
-use Rattle.etx_job.specs.declared.yields.Yield.TheVariants.{Quiet, Act, Load, Done}
-use Rattle.etx_job.specs.Turn.{turn_of}
+use Rattle.etx_mouth.specs.declared.yields.Yield.{Yield}
+use Rattle.etx_mouth.specs.declared.yields.Yield.TheVariants.{Quiet, Act, Load, Done}
+use Rattle.etx_mouth.specs.Turn.{turn_of}
 use Rattle.etx_job.specs.Chain.{Start, World, ended, handled, turned_on, step_open, step_from, step, opening, chain}
 use Rattle.etx_job.specs.Meaning.{Meaning, start_of, status_of, IsMeaningOfJob}
 use Rattle.etx_job.proofs.Ends.{step_stays}
-use Rattle.etx_job.proofs.Turns.{lt_true, lt_false}
+use Rattle.etx_mouth.proofs.Comparing.{lt_true, lt_false}
 
 module _ (job : JobState) (budget : ℕ) (files : Files) (le : job.budget ≤ budget) where
   abbrev less : Start

@@ -3,11 +3,11 @@ use Rattle.std.proofs.Common.{◌≡◌, inl, inr, ℕ, ◌<◌, ◌≤◌, Bool
 use Rattle.std.proofs.lemmas.Bool.{cases_lt}
 use Rattle.etx_expand.specs.Measure.{turn_weight}
 use Rattle.etx_matter.specs.declared.deed.Deed.{Deed}
-use Rattle.etx_job.specs.Mouths.{MouthState}
-use Rattle.etx_job.specs.declared.yields.Yield.TheVariants.{Quiet, Act, Load}
-use Rattle.etx_job.specs.Turn.{turned}
-use Rattle.etx_job.specs.Errors.{is_error}
-use Rattle.etx_job.specs.Measure.{Falls, Goes, GoesOn, IsAnswered}
+use Rattle.etx_mouth.specs.Mouths.{MouthState}
+use Rattle.etx_mouth.specs.declared.yields.Yield.TheVariants.{Quiet, Act, Load}
+use Rattle.etx_mouth.specs.Turn.{turned}
+use Rattle.etx_mouth.specs.Errors.{is_error}
+use Rattle.etx_mouth.specs.Measure.{Falls, Goes, GoesOn, IsAnswered}
 
 falls_on : (old new : MouthState) (e : ℕ) → Falls 1 old new → GoesOn old e new e
 falls_on old new e f = elim f [ inl more ↦ inl more | inr less ↦ inr (inr (less.0, refl, omega (arith, less.1))) ]

@@ -11,19 +11,19 @@ use Rattle.etx_matter.specs.declared.deed.Deed.{Deed}
 use Rattle.etx_matter.specs.declared.end.End.{End}
 use Rattle.etx_matter.specs.declared.end.End.TheVariants.{Hundred, Spent}
 use Rattle.etx_matter.specs.Jobs.{JobState}
-use Rattle.etx_job.specs.Mouths.{MouthState}
-use Rattle.etx_job.specs.declared.yields.Yield.{Yield}
-use Rattle.etx_job.specs.declared.yields.Yield.TheVariants.{Quiet, Act, Load, Done}
-use Rattle.etx_job.specs.Turn.{turned, turn_of, resumed, first_mouth, line_number_of}
-use Rattle.etx_job.specs.Errors.{is_error}
-use Rattle.etx_job.specs.Measure.{weight, Goes, GoesOn}
+use Rattle.etx_mouth.specs.Mouths.{MouthState}
+use Rattle.etx_mouth.specs.declared.yields.Yield.{Yield}
+use Rattle.etx_mouth.specs.declared.yields.Yield.TheVariants.{Quiet, Act, Load, Done}
+use Rattle.etx_mouth.specs.Turn.{turned, turn_of, resumed, first_mouth, line_number_of}
+use Rattle.etx_mouth.specs.Errors.{is_error}
+use Rattle.etx_mouth.specs.Measure.{weight, Goes, GoesOn}
 use Rattle.etx_job.specs.Words.{log_name}
 use Rattle.etx_job.specs.Chain.{Start, World, with_deeds, closing, ended, with_error, counted, handled, step_open, step_from, step, turned_on, opening, chain, IsMean}
 use Rattle.etx_job.specs.Going.{world_of, Going, Over, Cut, Settled}
-use Rattle.etx_job.proofs.Falling.{turn_goes, resumed_adds}
+use Rattle.etx_mouth.proofs.Falling.{turn_goes, resumed_adds}
 use Rattle.etx_job.proofs.Acting.{Grows, grows_not, counted_grows}
 use Rattle.etx_job.proofs.Coming.{quiet_on, act_on, load_on}
-use Rattle.etx_job.proofs.Turns.{lt_true, lt_false}
+use Rattle.etx_mouth.proofs.Comparing.{lt_true, lt_false}
 
 pub cut_nothing : (start : Start) (first : Outside) → Cut start first first
 cut_nothing start first = record { turns = 0; front = front_none _ refl }

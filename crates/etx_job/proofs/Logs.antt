@@ -10,10 +10,11 @@ use Rattle.etx_matter.specs.declared.deed.Deed.{Deed}
 use Rattle.etx_matter.specs.declared.deed.Deed.TheVariants.{Fresh, Space, Text, Error, Create}
 use Rattle.etx_matter.specs.declared.end.End.{End}
 use Rattle.etx_matter.specs.declared.end.End.TheVariants as end
-use Rattle.etx_job.specs.declared.yields.Yield.{Yield}
-use Rattle.etx_job.specs.declared.yields.Yield.TheVariants.{Quiet, Act, Load, Done}
-use Rattle.etx_job.specs.Errors.{is_error, most_errors}
-use Rattle.etx_job.specs.Turn.{turn_of, line_number_of}
+use Rattle.etx_mouth.specs.declared.yields.Yield.{Yield}
+use Rattle.etx_mouth.specs.declared.yields.Yield.TheVariants.{Quiet, Act, Load, Done}
+use Rattle.etx_mouth.specs.Errors.{is_error}
+use Rattle.etx_job.specs.Errors.{most_errors}
+use Rattle.etx_mouth.specs.Turn.{turn_of, line_number_of}
 use Rattle.etx_job.specs.Words.{log_name}
 use Rattle.etx_job.specs.Chain.{Start, World, with_deeds, closing, ended, with_error, counted, handled, turned_on, step_open, step_from, step, opening, chain}
 use Rattle.etx_job.specs.Texts.{added_to, ends_line}

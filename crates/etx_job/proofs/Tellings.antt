@@ -10,25 +10,26 @@ use Rattle.etx_matter.specs.declared.deed.Deed.{Deed}
 use Rattle.etx_matter.specs.declared.deed.Deed.TheVariants.{Fresh, Space, Text, Error, Create}
 use Rattle.etx_matter.specs.declared.end.End.{End}
 use Rattle.etx_matter.specs.declared.end.End.TheVariants as end
-use Rattle.etx_job.specs.declared.yields.Yield.{Yield}
-use Rattle.etx_job.specs.declared.yields.Yield.TheVariants.{Quiet, Act, Load, Done}
+use Rattle.etx_mouth.specs.declared.yields.Yield.{Yield}
+use Rattle.etx_mouth.specs.declared.yields.Yield.TheVariants.{Quiet, Act, Load, Done}
 use Rattle.etx_outside.specs.Entries.{files_after}
 use Rattle.etx_outside.specs.Loading.{load_of}
 use Rattle.etx_outside.specs.declared.tree.Loaded.{Loaded}
 use Rattle.etx_outside.specs.declared.tree.Loaded.TheVariants as loaded
 use Rattle.etx_state.specs.Mouths.{Mouth}
-use Rattle.etx_expand.specs.declared.plan.Turned.{Turned as Came}
-use Rattle.etx_expand.specs.declared.plan.Turned.TheVariants as came
-use Rattle.etx_job.specs.declared.mouth.Source.{Source}
-use Rattle.etx_job.specs.declared.mouth.Source.TheVariants.{Unasked, Absent, Refused, Reading}
-use Rattle.etx_job.specs.Mouths.{MouthState}
-use Rattle.etx_job.specs.Machine.{machine_turn}
-use Rattle.etx_job.specs.Errors.{is_error, most_errors}
-use Rattle.etx_job.specs.Turn.{turn_of, line_number_of, yield_of, source_turn, answered, resumed, first_mouth}
+use Rattle.etx_answers.specs.declared.plan.Turned.{Turned as Came}
+use Rattle.etx_answers.specs.declared.plan.Turned.TheVariants as came
+use Rattle.etx_mouth.specs.declared.mouth.Source.{Source}
+use Rattle.etx_mouth.specs.declared.mouth.Source.TheVariants.{Unasked, Absent, Refused, Reading}
+use Rattle.etx_mouth.specs.Mouths.{MouthState}
+use Rattle.etx_mouth.specs.Machine.{machine_turn}
+use Rattle.etx_mouth.specs.Errors.{is_error}
+use Rattle.etx_job.specs.Errors.{most_errors}
+use Rattle.etx_mouth.specs.Turn.{turn_of, line_number_of, yield_of, source_turn, answered, resumed, first_mouth}
 use Rattle.etx_job.specs.Words.{log_name}
 use Rattle.etx_job.specs.Chain.{Start, World, with_deeds, closing, ended, with_error, counted, handled, turned_on, step_open, step_from, step, opening, chain}
 use Rattle.etx_job.specs.Texts.{added_to, OnlyTo, OnlyMakes, OnlyAsks, is_told, AllTold}
-use Rattle.etx_job.proofs.Falling.{turn_makes_nothing}
+use Rattle.etx_mouth.proofs.Falling.{turn_makes_nothing}
 use Rattle.etx_job.proofs.Logs.{InLog, added-append, added-text, written_in, deed_in, deeds_in, chain_in}
 
 -- what is asked of a deed: of a text that it goes to where it may, and of a file that it may be created

@@ -1,7 +1,6 @@
 -- One step of the chain, as the mouth and the journal make it.
-use Rattle.std.proofs.Common.{◌≡◌, ℕ, zero, suc, ◌<◌, ◌≤◌, true, false, cond, nat_lt, List, [], ◌∷◌, ◌++◌, Option, Some, None, refl, sym, ◌∙◌, ap, subst, append_assoc, arith}
+use Rattle.std.proofs.Common.{◌≡◌, ℕ, zero, suc, ◌<◌, ◌≤◌, true, false, cond, List, [], ◌∷◌, ◌++◌, Option, Some, None, refl, sym, ◌∙◌, ap, subst, append_assoc}
 use Rattle.std.proofs.lemmas.List.{append-nil}
-use Rattle.std.proofs.lemmas.Bool.Decides.{nat_tests}
 use Rattle.etx_outside.specs.Entries.{Files, Asked, History, files_after}
 use Rattle.etx_outside.specs.Outside.{Outside, after, Front}
 use Rattle.etx_outside.specs.Loading.{load_of}
@@ -12,14 +11,15 @@ use Rattle.etx_settle.proofs.Deeds.{entries-append, pen_after_all-append}
 use Rattle.etx_matter.specs.declared.deed.Deed.{Deed}
 use Rattle.etx_matter.specs.declared.end.End.{End}
 use Rattle.etx_matter.specs.declared.end.End.TheVariants.{Spent}
-use Rattle.etx_job.specs.Mouths.{MouthState}
-use Rattle.etx_job.specs.declared.yields.Yield.{Yield}
-use Rattle.etx_job.specs.declared.yields.Yield.TheVariants.{Quiet, Act, Load, Done}
-use Rattle.etx_job.specs.Turn.{turn_of, resumed, line_number_of}
-use Rattle.etx_job.specs.Runs.{RunsIn, Runs}
+use Rattle.etx_mouth.specs.Mouths.{MouthState}
+use Rattle.etx_mouth.specs.declared.yields.Yield.{Yield}
+use Rattle.etx_mouth.specs.declared.yields.Yield.TheVariants.{Quiet, Act, Load, Done}
+use Rattle.etx_mouth.specs.Turn.{turn_of, resumed, line_number_of}
+use Rattle.etx_mouth.specs.Runs.{RunsIn, Runs}
 use Rattle.etx_job.specs.Chain.{Start, World, with_deeds, closing, ended, handled, step_open, step, chain}
 use Rattle.etx_job.specs.Going.{more_waiting, world_of, IsFor, Going, Over, AfterTurn, Asks, Acts, Cut}
 use Rattle.etx_job.specs.Meaning.{AtAsk}
+use Rattle.etx_mouth.proofs.Comparing.{lt_true, lt_false}
 
 abbrev pub flushed : JournalState → JournalState
 flushed journal = record { pen = pen_after_all journal.pen journal.waiting; waiting = [] }
@@ -31,12 +31,6 @@ waiting_more mouth errors journal done end ds =
     let pen = sym (pen_after_all-append journal.pen journal.waiting ds) in
     let trace = append_assoc done (entries journal.pen journal.waiting) (entries (pen_after_all journal.pen journal.waiting) ds) ∙ ap (λ (h : History). done ++ h) (sym (entries-append journal.pen journal.waiting ds)) in
     λ i. record { mouth = mouth; errors = errors; pen = pen i; trace = trace i; end = end }
-
-pub lt_true : (a b : ℕ) → a < b → nat_lt a b ≡ true
-lt_true a b h = grind (arith, nat_tests)
-
-pub lt_false : (a b : ℕ) → b ≤ a → nat_lt a b ≡ false
-lt_false a b h = grind (arith, nat_tests)
 
 module _ {start : Start} {first now : Outside} {mouth : MouthState} {errors : ℕ} {journal : JournalState} (g : Going start first mouth errors journal now) where
   abbrev here : World

@@ -12,11 +12,12 @@ use Rattle.etx_matter.specs.declared.end.Limit.{Limit}
 use Rattle.etx_matter.specs.declared.end.End.{End}
 use Rattle.etx_matter.specs.declared.end.End.TheVariants.{Ended, Fatal, Hundred, Capacity, Spent, Unbuilt}
 use Rattle.etx_matter.specs.Jobs.{JobState}
-use Rattle.etx_job.specs.Mouths.{MouthState}
-use Rattle.etx_job.specs.declared.yields.Yield.{Yield}
-use Rattle.etx_job.specs.declared.yields.Yield.TheVariants.{Quiet, Act, Load, Done}
-use Rattle.etx_job.specs.Errors.{is_error, most_errors}
-use Rattle.etx_job.specs.Turn.{turn_of, resumed, first_mouth, line_number_of}
+use Rattle.etx_mouth.specs.Mouths.{MouthState}
+use Rattle.etx_mouth.specs.declared.yields.Yield.{Yield}
+use Rattle.etx_mouth.specs.declared.yields.Yield.TheVariants.{Quiet, Act, Load, Done}
+use Rattle.etx_mouth.specs.Errors.{is_error}
+use Rattle.etx_job.specs.Errors.{most_errors}
+use Rattle.etx_mouth.specs.Turn.{turn_of, resumed, first_mouth, line_number_of}
 use Rattle.etx_job.specs.Words.{log_name}
 
 -- what there is at the beginning: the job, and what each file holds

@@ -5,8 +5,8 @@ use Rattle.etx_outside.specs.Outside.{Outside, after, Front}
 use Rattle.etx_settle.specs.Deeds.{JournalState, entries, pen_after_all}
 use Rattle.etx_matter.specs.declared.deed.Deed.{Deed}
 use Rattle.etx_matter.specs.declared.end.End.{End}
-use Rattle.etx_job.specs.Mouths.{MouthState}
-use Rattle.etx_job.specs.declared.yields.Yield.TheVariants.{Act, Load}
+use Rattle.etx_mouth.specs.Mouths.{MouthState}
+use Rattle.etx_mouth.specs.declared.yields.Yield.TheVariants.{Act, Load}
 use Rattle.etx_job.specs.Chain.{Start, World, IsMean, handled, chain}
 
 -- the journal has these deeds more to write

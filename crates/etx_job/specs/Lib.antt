@@ -1,15 +1,7 @@
 pub mod Chain
-pub mod Commands
 pub mod Errors
 pub mod Fault
-pub mod Gathering
 pub mod Going
-pub mod Machine
 pub mod Meaning
-pub mod Measure
-pub mod Mouths
-pub mod Runs
-pub mod Skimming
 pub mod Texts
-pub mod Turn
 pub mod Words

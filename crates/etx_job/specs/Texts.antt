@@ -5,8 +5,8 @@ use Rattle.etx_outside.specs.Entries.{Asked, Made, Byte, Shown, History}
 use Rattle.etx_settle.specs.Deeds.{is_shown_to}
 use Rattle.etx_matter.specs.declared.deed.Deed.{Deed}
 use Rattle.etx_matter.specs.declared.deed.Deed.TheVariants.{Fresh, Space, Text, Error, Create}
-use Rattle.etx_job.specs.declared.yields.Yield.TheVariants.{Act}
-use Rattle.etx_job.specs.Turn.{turn_of}
+use Rattle.etx_mouth.specs.declared.yields.Yield.TheVariants.{Act}
+use Rattle.etx_mouth.specs.Turn.{turn_of}
 use Rattle.etx_job.specs.Chain.{Start, chain}
 
 -- the bytes that a history adds to the file of this name

@@ -2,27 +2,17 @@
 ghost use Rattle.std.specs.Prelude.{◌≡◌, ℕ, ◌≤◌, List};
 ghost use Rattle.etx_outside.specs.Entries.{Files, said};
 ghost use Rattle.etx_matter.specs.Jobs.{JobState};
-ghost use Rattle.etx_job.specs.Mouths.{MouthState};
-ghost use Rattle.etx_job.specs.Runs.{Advances};
 ghost use Rattle.etx_job.specs.Chain.{Start, chain};
 ghost use Rattle.etx_job.specs.Words.{log_name};
 ghost use Rattle.etx_job.specs.Texts.{added_to, is_at_start, OnlyTo, OnlyMakes, OnlyAsks, AllTold};
 ghost use Rattle.etx_job.specs.Meaning.{Meaning, IsMeaning, IsMeaningOfJob, start_of};
 ghost use Rattle.etx_matter.specs.declared.end.Status.TheVariants.{Spent};
-ghost use Rattle.etx_job.specs.declared.yields.Halt.{Halt as Why};
 
 /// Whatever the words are and whatever the files hold, the words have exactly one meaning over them: each chain of
 /// steps comes to an end, and to one alone.
 pub fn each_job_has_one_meaning()
     ensures one { (words : List (List ℕ)) (files : Files) → (m : Meaning) × IsMeaning words files m }
     ensures only { (words : List (List ℕ)) (files : Files) (m n : Meaning) → IsMeaning words files m → IsMeaning words files n → m ≡ n }
-{}
-
-/// From one mouth and under one budget, the first turn that isn't quiet or passes the budget is determined, with what it yields
-/// and the mouth behind it, however many quiet turns were made in one call before.
-pub fn each_run_halts_in_one_way()
-    ensures why { (budget : ℕ) (old new other : MouthState) (why wherefore : Why) → Advances budget old new why → Advances budget old other wherefore → why ≡ wherefore }
-    ensures now { (budget : ℕ) (old new other : MouthState) (why wherefore : Why) → Advances budget old new why → Advances budget old other wherefore → new ≡ other }
 {}
 
 /// More budget changes nothing: a meaning whose status isn't `Spent` is the meaning under each greater budget too.

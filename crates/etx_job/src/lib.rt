@@ -4,21 +4,14 @@
 //! plain meaning of its words, which `specs/Chain.antt` and `specs/Meaning.antt` define.
 #![tactic(auto)]
 
-mod commands;
 mod driver;
 mod fault;
 mod law;
-mod machine;
-mod mouth;
-mod skim;
-mod skim_body;
-mod skim_command;
 mod typeset;
 mod words;
-mod yields;
 
 pub use law::{
-    a_job_keeps_to_its_files, each_job_has_one_meaning, each_run_halts_in_one_way,
-    more_budget_changes_nothing, the_column_is_that_of_the_log, the_log_is_what_was_said,
+    a_job_keeps_to_its_files, each_job_has_one_meaning, more_budget_changes_nothing,
+    the_column_is_that_of_the_log, the_log_is_what_was_said,
 };
 pub use typeset::typeset_alone;

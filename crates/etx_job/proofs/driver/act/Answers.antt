@@ -2,7 +2,7 @@ use Rattle.std.proofs.Common.{◌≡◌, ◌<◌, ◌≤◌, ◌+◌, true, fals
 use Rattle.etx_outside.proofs.Outsides.{front_all}
 use Rattle.etx_settle.specs.Deeds.{JournalState}
 use Rattle.etx_matter.specs.declared.end.End.TheVariants.{Hundred}
-use Rattle.etx_job.specs.Errors.{is_error}
+use Rattle.etx_mouth.specs.Errors.{is_error}
 use Rattle.etx_job.specs.Chain.{closing}
 use Rattle.etx_job.specs.Going.{more_waiting}
 use Rattle.etx_job.proofs.Turns.{going_flushed, going_is}

@@ -1,8 +1,8 @@
 use Rattle.std.proofs.Common.{◌≡◌, ◌<◌, ◌≤◌}
 use Rattle.etx_outside.specs.Outside.{Outside, outside_of, faults_of, NoneFell}
 use Rattle.etx_settle.specs.Deeds.{AllOpen}
-use Rattle.etx_job.specs.Mouths.{state_of}
-use Rattle.etx_job.specs.Measure.{weight}
+use Rattle.etx_mouth.specs.Mouths.{state_of}
+use Rattle.etx_mouth.specs.Measure.{weight}
 use Rattle.etx_job.specs.Chain.{Start}
 use Rattle.etx_job.specs.Going.{IsFor, Going}
 use Rattle.etx_job.proofs.driver.go_far.Given as goal

@@ -1,10 +1,10 @@
 use Rattle.std.proofs.Common.{◌<◌, ◌≤◌, ◌∙◌, ap, subst, sym, arith, rules, ℕ}
-use Rattle.etx_job.specs.Mouths.{MouthState, state_of}
-use Rattle.etx_job.specs.Turn.{turn_of, line_number_of}
+use Rattle.etx_mouth.specs.Mouths.{MouthState, state_of}
+use Rattle.etx_mouth.specs.Turn.{turn_of, line_number_of}
 use Rattle.etx_job.specs.Chain.{closing}
 use Rattle.etx_job.specs.Going.{more_waiting}
 use Rattle.etx_job.proofs.Coming.{act_on, load_on}
-use Rattle.etx_job.proofs.Running.{halts_as, goes_to}
+use Rattle.etx_mouth.proofs.Running.{halts_as, goes_to}
 use Rattle.etx_job.proofs.Turns.{over_is, asks_is, acts_is, going_runs, turn_act, turn_done, turn_spent, turn_asks}
 use Rattle.etx_job.proofs.driver.go_on.Goals as goal
 

@@ -1,4 +1,4 @@
-use Rattle.etx_job.specs.Mouths.{state_of}
+use Rattle.etx_mouth.specs.Mouths.{state_of}
 use Rattle.etx_job.proofs.Turns.{over_of}
 use Rattle.etx_job.proofs.driver.go_to_end.Goals as goal
 

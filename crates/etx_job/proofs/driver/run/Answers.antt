@@ -1,6 +1,6 @@
 use Rattle.std.proofs.Common.{◌≡◌, ◌∙◌, ap, sym, arith, rules}
 use Rattle.etx_matter.specs.Jobs.{JobState}
-use Rattle.etx_job.specs.Mouths.{MouthState, state_of}
+use Rattle.etx_mouth.specs.Mouths.{MouthState, state_of}
 use Rattle.etx_outside.specs.Outside.{faults_of}
 use Rattle.etx_job.proofs.Causes.{write_from}
 use Rattle.etx_job.proofs.Ends.{cut_nothing, starts_as, first_spent}

@@ -1,0 +1,5 @@
+pub mod Answers
+pub mod Meanings
+pub mod Printing
+pub mod Reads
+pub mod Showing

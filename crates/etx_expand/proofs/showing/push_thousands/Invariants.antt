@@ -1,6 +1,0 @@
-use Rattle.std.proofs.Common.{◌≡◌, ◌++◌}
-use Rattle.std.proofs.Math.ListN.{replicate}
-use Rattle.etx_expand.proofs.showing.push_thousands.Given as goal
-
-abbrev pub invariant-loop-thousand : goal.invariant-loop-thousand
-invariant-loop-thousand l = l.text ≡ l.initial.text ++ replicate l._thousand 109

@@ -1,7 +1,0 @@
-use Rattle.std.proofs.Common.{rules}
-use Rattle.etx_job.specs.Mouths.{state_of}
-use Rattle.etx_job.proofs.Falling.{resumed_adds_to}
-use Rattle.etx_job.proofs.mouth.Mouth.resume.Goals as goal
-
-pub returns-clause-answered : goal.returns-clause-answered
-returns-clause-answered c = resumed_adds_to c.args.name.now (state_of c.args.self.now) (state_of c.take.new.self) c.args.loaded (search rules)

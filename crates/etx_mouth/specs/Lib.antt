@@ -1,0 +1,9 @@
+pub mod Commands
+pub mod Errors
+pub mod Gathering
+pub mod Machine
+pub mod Measure
+pub mod Mouths
+pub mod Runs
+pub mod Skimming
+pub mod Turn
