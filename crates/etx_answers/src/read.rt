@@ -46,6 +46,7 @@ pub struct Read {
 const MOST_OUTERS: usize = 10_000;
 
 /// The scan goes on so.
+#[inline(always)]
 pub fn goes_on(scan: NumberScan) -> Read
     ensures { result ≡ goes_on scan }
 {
@@ -59,6 +60,7 @@ pub fn goes_on(scan: NumberScan) -> Read
 }
 
 /// A word begins with the token.
+#[inline(always)]
 pub fn letter(scan: NumberScan) -> Read
     ensures { result ≡ record { next = Next.Letter scan; is_back = false; error = None; outer = None; further = None } }
 {
@@ -72,6 +74,7 @@ pub fn letter(scan: NumberScan) -> Read
 }
 
 /// The number is whole, and the token is used up.
+#[inline(always)]
 pub fn gives(amount: Quantity) -> Read
     ensures { result ≡ gives amount }
 {
@@ -79,6 +82,7 @@ pub fn gives(amount: Quantity) -> Read
 }
 
 /// The same of an amount of an order.
+#[inline(always)]
 pub fn gives_order(amount: Quantity, order: GlueOrder) -> Read
     ensures { result ≡ gives_order amount order }
 {
@@ -92,6 +96,7 @@ pub fn gives_order(amount: Quantity, order: GlueOrder) -> Read
 }
 
 /// The token is read again.
+#[inline(always)]
 pub fn back(read: Read) -> Read
     ensures { result ≡ record read { is_back = true } }
 {
@@ -102,6 +107,7 @@ pub fn back(read: Read) -> Read
 }
 
 /// The token is read again, if it is no space that belongs to the number.
+#[inline(always)]
 pub fn back_unless(is_space: bool, read: Read) -> Read
     ensures { result ≡ record read { is_back = not is_space } }
 {
@@ -123,6 +129,7 @@ pub fn failing(alloc: Global, text: &[u8], read: Read) -> Result<Read, AllocErro
 }
 
 /// What is read now is for this outer scan.
+#[inline(always)]
 pub fn behind(outer: Outer, read: Read) -> Read
     ensures { result ≡ behind outer read }
 {
@@ -156,6 +163,7 @@ pub fn reads_end(end: End) -> Read
 }
 
 /// The outer scan waits, if there is one. `None` where there is no room for it.
+#[inline(always)]
 fn wait(mut taker: Boxed<Taker>, outer: Option<Outer>) -> Result<Option<Boxed<Taker>>, AllocError>
     ensures { IfOk result (λ waiting. waiting ≡ waits outer taker) }
 {
@@ -172,6 +180,7 @@ fn wait(mut taker: Boxed<Taker>, outer: Option<Outer>) -> Result<Option<Boxed<Ta
 }
 
 /// Both outer scans wait, where they are there. `None` where there is no room for them.
+#[inline(always)]
 fn wait_both(
     taker: Boxed<Taker>,
     outer: Option<Outer>,
@@ -186,6 +195,7 @@ fn wait_both(
 }
 
 /// The error, if there is one.
+#[inline(always)]
 fn error_of(alloc: Global, is_back: bool, error: Option<Bytes>) -> Result<Did, AllocError>
     ensures { IfOk result (λ did. did ≡ error_did is_back error) }
 {
@@ -257,6 +267,7 @@ fn list_move(rest: &Rest, key: Key, taker: Boxed<Taker>) -> Result<Move, AllocEr
 }
 
 /// What becomes of the scan and its token, with the error, if there is one.
+#[inline(always)]
 fn plan_with_error(
     alloc: Global,
     is_back: bool,
@@ -270,6 +281,7 @@ fn plan_with_error(
 }
 
 /// Carries out what comes next, where a token was got.
+#[inline(always)]
 fn plan_next(
     rest: &Rest,
     taker: Boxed<Taker>,
@@ -308,6 +320,7 @@ fn plan_next(
 
 /// Carries out what a scan decided of a token.
 #[tactic(auto, unfolding(crate::specs::Reads::read_plan))]
+#[inline(always)]
 pub fn read_plan(rest: &Rest, taker: Boxed<Taker>, read: Read) -> Result<Plan, AllocError>
     ensures { IfOk result (λ plan. plan ≡ read_plan taker read (rest_of rest.now)) }
 {

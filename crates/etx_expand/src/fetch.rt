@@ -34,6 +34,7 @@ pub enum Fetched {
     Idle(Idle),
 }
 
+#[inline(always)]
 fn fetched_by(by: Reading, got: Got) -> Fetched
     ensures { result ≡ fetched_as by got }
 {
@@ -49,6 +50,7 @@ fn fetched_by(by: Reading, got: Got) -> Fetched
 
 /// Fetches a token for a scan, which stands on the stack no more. After an `Err` the state is only dropped.
 #[tactic(auto, unfolding(crate::specs::Turn::scan_fetched))]
+#[inline(always)]
 pub fn fetch_for(s: &mut State, scan: &Scan) -> Result<Fetched, AllocError>
     ensures now { OnOk result (mouth_of s.new ≡ (scan_fetched scan.now (mouth_of s.old)).now) }
     ensures fetched { IfOk result (λ f. f ≡ (scan_fetched scan.now (mouth_of s.old)).fetched) }

@@ -52,6 +52,7 @@ pub enum Got {
 }
 
 /// What a scan says of outer control sequences, if it says something.
+#[inline(always)]
 fn expansion_watch(scan: &ExpansionScan) -> Option<Watch>
     ensures { MatchOption result ((others : Watch) → expansion_watch scan.now others ≡ others) (λ w. (others : Watch) → expansion_watch scan.now others ≡ w) }
 {
@@ -74,6 +75,7 @@ fn expansion_watch(scan: &ExpansionScan) -> Option<Watch>
     }
 }
 
+#[inline(always)]
 fn assign_watch(scan: &AssignScan) -> Option<Watch>
     ensures { MatchOption result ((others : Watch) → assign_watch scan.now others ≡ others) (λ w. (others : Watch) → assign_watch scan.now others ≡ w) }
 {
@@ -95,6 +97,7 @@ fn assign_watch(scan: &AssignScan) -> Option<Watch>
 }
 
 #[tactic(auto, unfolding(crate::specs::Getting::watch_by))]
+#[inline(always)]
 fn watch_by(scan: &Scan) -> Option<Watch>
     ensures { MatchOption result ((others : Watch) → watch_by scan.now others ≡ others) (λ w. (others : Watch) → watch_by scan.now others ≡ w) }
 {
@@ -107,6 +110,7 @@ fn watch_by(scan: &Scan) -> Option<Watch>
     }
 }
 
+#[inline(always)]
 fn watch_at(entry: &Entry) -> Option<Watch>
     ensures { MatchOption result ((others : Watch) → watch_at entry.now others ≡ others) (λ w. (others : Watch) → watch_at entry.now others ≡ w) }
 {
@@ -122,6 +126,7 @@ fn watch_at(entry: &Entry) -> Option<Watch>
 
 /// What the entries say of outer control sequences: the innermost scan that says something decides.
 #[tactic(auto, unfolding(crate::specs::Getting::watch_of))]
+#[inline(always)]
 fn find_watch(entries: &Entries) -> Watch
     ensures { result ≡ watch_of entries.now }
 {
@@ -137,6 +142,7 @@ fn find_watch(entries: &Entries) -> Watch
 }
 
 /// The same, where a scan stands above them.
+#[inline(always)]
 fn watch_above(scan: Option<&Scan>, entries: &Entries) -> Watch
     ensures { result ≡ watched_from (option_copied scan.entry) (watch_of entries.now) }
 {
@@ -249,6 +255,7 @@ fn forbid(s: &mut State, watch: Watch, token: Token) -> Result<Got, AllocError>
 }
 
 /// A token is got, unless it is outer where that is forbidden.
+#[inline(always)]
 fn admit(
     s: &mut State,
     above: Option<&Scan>,
@@ -272,6 +279,7 @@ fn admit(
 }
 
 #[tactic(auto, unfolding(crate::specs::Getting::token_got))]
+#[inline(always)]
 fn take(
     s: &mut State,
     above: Option<&Scan>,
@@ -372,6 +380,7 @@ fn end_file(s: &mut State, above: Option<&Scan>) -> Result<Got, AllocError>
 }
 
 /// Charges what a token of a list is.
+#[inline(always)]
 fn charge(s: &mut State, origin: Origin) -> Result<(), AllocError>
     ensures { OnOk result (mouth_of s.new ≡ charged (charge_of origin) (mouth_of s.old)) }
 {
@@ -383,6 +392,7 @@ fn charge(s: &mut State, origin: Origin) -> Result<(), AllocError>
     }
 }
 
+#[inline(always)]
 fn take_next(s: &mut State, above: Option<&Scan>, next: Next) -> Result<Got, AllocError>
     ensures now { OnOk result (mouth_of s.new ≡ (next_got (watched_from (option_copied above.entry) (watch_of (mouth_of s.old).entries)) next (mouth_of s.old)).now) }
     ensures got { IfOk result (λ g. g ≡ (next_got (watched_from (option_copied above.entry) (watch_of (mouth_of s.old).entries)) next (mouth_of s.old)).got) }
@@ -401,6 +411,7 @@ fn take_next(s: &mut State, above: Option<&Scan>, next: Next) -> Result<Got, All
 /// Gets what is next: a token with its meaning, or none, and the turn is over. `above`: the scan that gets it, which stands on
 /// the stack no more. After an `Err` the state is only dropped.
 #[tactic(auto, unfolding(crate::specs::Getting::got_of))]
+#[inline(always)]
 pub(crate) fn get(s: &mut State, above: Option<&Scan>) -> Result<Got, AllocError>
     ensures now { OnOk result (mouth_of s.new ≡ (got_of (watched_from (option_copied above.entry) (watch_of (mouth_of s.old).entries)) (mouth_of s.old)).now) }
     ensures got { IfOk result (λ g. g ≡ (got_of (watched_from (option_copied above.entry) (watch_of (mouth_of s.old).entries)) (mouth_of s.old)).got) }

@@ -18,6 +18,7 @@ use std::alloc::AllocError;
 const MOST_STAGES: u8 = 7;
 
 /// Counts a step. A count that has no room in 64 bits is refused as memory is.
+#[inline(always)]
 pub(crate) fn count(s: &mut State) -> Result<(), AllocError>
     ensures { OnOk result (mouth_of s.new ≡ charged 1 (mouth_of s.old)) }
 {
@@ -53,6 +54,7 @@ fn read_list(s: &mut State, tokens: SharedTokens, origin: Origin) -> Result<(), 
 }
 
 /// Puts something on the stack. After an `Err` the state is only dropped.
+#[inline(always)]
 pub fn enter(s: &mut State, entry: Entry) -> Result<(), AllocError>
     ensures { OnOk result (mouth_of s.new ≡ entered entry (mouth_of s.old)) }
 {
@@ -61,6 +63,7 @@ pub fn enter(s: &mut State, entry: Entry) -> Result<(), AllocError>
 }
 
 /// Puts a scan on the stack whose programme may go on so often for nothing.
+#[inline(always)]
 pub(crate) fn enter_scan(s: &mut State, left: u8, scan: Scan) -> Result<(), AllocError>
     ensures { OnOk result (mouth_of s.new ≡ scanning left scan (mouth_of s.old)) }
 {
@@ -147,6 +150,7 @@ fn fail_value(s: &mut State, failure: Failure) -> Result<Turned, AllocError>
 
 /// What is done beside, about a token.
 #[tactic(auto, unfolding(crate::specs::Moves::beside, crate::specs::Moves::turned_by))]
+#[inline(always)]
 fn do_beside(s: &mut State, token: Token, did: Did) -> Result<Turned, AllocError>
     ensures now { OnOk result (mouth_of s.new ≡ beside token did (mouth_of s.old)) }
     ensures turned { IfOk result (λ t. t ≡ turned_by did (mouth_of s.old)) }
@@ -233,6 +237,7 @@ fn keep_first(s: &mut State, left: u8, token: Token, scan: Scan) -> Result<(), A
 
 /// What becomes of a scan and its token.
 #[tactic(auto, unfolding(crate::specs::Moves::made))]
+#[inline(always)]
 fn go(s: &mut State, left: u8, token: Token, go: Move) -> Result<(), AllocError>
     ensures { OnOk result (mouth_of s.new ≡ made left token go (mouth_of s.old)) }
 {
@@ -252,6 +257,7 @@ fn go(s: &mut State, left: u8, token: Token, go: Move) -> Result<(), AllocError>
 }
 
 /// Carries out what a scan's row decided of a token; the row has changed the rest. After an `Err` the state is only dropped.
+#[inline(always)]
 pub fn make(s: &mut State, left: u8, token: Token, plan: Plan) -> Result<Turned, AllocError>
     ensures now { OnOk result (mouth_of s.new ≡ (planned_turn left token (reading plan (mouth_of s.old).rest) (mouth_of s.old)).now) }
     ensures turned { IfOk result (λ t. t ≡ (planned_turn left token (reading plan (mouth_of s.old).rest) (mouth_of s.old)).turned) }
@@ -314,6 +320,7 @@ fn go_on_behind(s: &mut State, left: u8, first: Scan, scan: Scan) -> Result<(), 
 }
 
 #[tactic(auto, unfolding(crate::specs::Moves::followed))]
+#[inline(always)]
 fn follow_with(s: &mut State, left: u8, then: Then) -> Result<(), AllocError>
     ensures { OnOk result (mouth_of s.new ≡ followed left then (mouth_of s.old)) }
 {
@@ -328,6 +335,7 @@ fn follow_with(s: &mut State, left: u8, then: Then) -> Result<(), AllocError>
 
 /// Carries out what a finisher decided, whose programme may go on so often for nothing; it has changed the rest. After an `Err`
 /// the state is only dropped.
+#[inline(always)]
 pub fn follow(s: &mut State, left: u8, ended: Ended) -> Result<Turned, AllocError>
     ensures now { OnOk result (mouth_of s.new ≡ (finished_turn left (record { rest = (mouth_of s.old).rest; ended = ended }) (mouth_of s.old)).now) }
     ensures turned { IfOk result (λ t. t ≡ (finished_turn left (record { rest = (mouth_of s.old).rest; ended = ended }) (mouth_of s.old)).turned) }

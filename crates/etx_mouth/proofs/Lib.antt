@@ -1,7 +1,9 @@
 pub mod Comparing
+pub mod Constants
 pub mod Falling
 pub mod Gathers
 pub mod Machines
+pub mod Passes
 pub mod Running
 pub mod SkimCommands
 pub mod Skims

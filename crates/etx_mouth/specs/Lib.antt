@@ -1,9 +1,11 @@
 pub mod Commands
+pub mod Counting
 pub mod Errors
 pub mod Gathering
 pub mod Machine
 pub mod Measure
 pub mod Mouths
+pub mod Passing
 pub mod Runs
 pub mod Skimming
 pub mod Turn

@@ -12,6 +12,8 @@ mod mouth;
 mod skim;
 mod skim_body;
 mod skim_command;
+mod skim_number;
+mod skim_skip;
 mod yields;
 
 pub use law::each_run_halts_in_one_way;

@@ -103,6 +103,7 @@ fn turn_control_text(
 }
 
 /// A scan gets a token that isn't expanded: a line for each owner.
+#[inline(always)]
 fn take_token(
     s: &mut State,
     left: u8,
@@ -124,6 +125,7 @@ fn take_token(
     }
 }
 
+#[inline(always)]
 fn take_fetched(
     s: &mut State,
     left: u8,
@@ -141,6 +143,7 @@ fn take_fetched(
 
 /// A scan waits for a token.
 #[tactic(auto, unfolding(crate::specs::Machine::scan_turn))]
+#[inline(always)]
 fn turn_scan(s: &mut State, left: u8, waits: Scan) -> Result<Turned, AllocError>
     ensures now { OnOk result (mouth_of s.new ≡ (scan_turn left waits (mouth_of s.old)).now) }
     ensures turned { IfOk result (λ t. t ≡ (scan_turn left waits (mouth_of s.old)).turned) }
@@ -151,6 +154,7 @@ fn turn_scan(s: &mut State, left: u8, waits: Scan) -> Result<Turned, AllocError>
 
 /// A number goes to the outer scan that waits for it, or else to its finisher: a line for each owner.
 #[tactic(auto, unfolding(crate::specs::Machine::amount_turn))]
+#[inline(always)]
 fn turn_amount(
     s: &mut State,
     left: u8,
@@ -171,6 +175,7 @@ fn turn_amount(
 }
 
 /// A line for each owner of values.
+#[inline(always)]
 fn turn_value(s: &mut State, left: u8, value: Value) -> Result<Turned, AllocError>
     ensures now { OnOk result (mouth_of s.new ≡ (value_turn left value (mouth_of s.old)).now) }
     ensures turned { IfOk result (λ t. t ≡ (value_turn left value (mouth_of s.old)).turned) }
@@ -301,6 +306,7 @@ fn turn_word(
     }
 }
 
+#[inline(always)]
 fn turn_entry(s: &mut State, entry: Entry) -> Result<Turned, AllocError>
     ensures now { OnOk result (mouth_of s.new ≡ (entry_turn entry (mouth_of s.old)).now) }
     ensures turned { IfOk result (λ t. t ≡ (entry_turn entry (mouth_of s.old)).turned) }
@@ -321,6 +327,7 @@ fn turn_entry(s: &mut State, entry: Entry) -> Result<Turned, AllocError>
 
 /// What stands on top is taken off the stack, and gets what it waits for.
 #[tactic(auto, unfolding(crate::specs::Machine::stack_turn))]
+#[inline(always)]
 fn turn_stack(s: &mut State) -> Result<Turned, AllocError>
     ensures now { OnOk result (mouth_of s.new ≡ (stack_turn (mouth_of s.old)).now) }
     ensures turned { IfOk result (λ t. t ≡ (stack_turn (mouth_of s.old)).turned) }
@@ -332,6 +339,7 @@ fn turn_stack(s: &mut State) -> Result<Turned, AllocError>
 }
 
 /// A turn that passes a limit ends the job.
+#[inline(always)]
 fn fit(s: &State, turned: Turned) -> Turned
     ensures { result ≡ fitting (mouth_of s.now) turned }
 {

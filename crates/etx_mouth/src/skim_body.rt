@@ -17,9 +17,13 @@ ghost use Rattle.etx_mouth.specs.Runs.{Runs};
 use crate::machine::MOST;
 use crate::mouth::Source;
 use crate::skim as at_rest;
+use crate::skim_number::skim_constant;
+use crate::skim_skip::skim_skipped;
 use etx_expand::enter;
 use etx_matter::{Boxed, Token};
-use etx_state::{AssignScan, Definition, Entry, Meaning, Rest, Scan, State};
+use etx_state::{
+    AssignScan, Definition, Entry, ExpansionScan, Meaning, NumberScan, Rest, Scan, State, Want,
+};
 use std::alloc::AllocError;
 
 /// Whether a body copies what has this meaning, where it is no brace.
@@ -237,6 +241,17 @@ fn skim_entry(s: &mut State, budget: u64, entry: Entry) -> Result<(), AllocError
             left,
             scan: Scan::Assign(AssignScan::Body(definition)),
         } => skim_body(s, budget, left, definition),
+        Entry::Scan {
+            left,
+            scan: Scan::Expansion(ExpansionScan::Skip(skip)),
+        } => skim_skipped(s, budget, left, skip),
+        Entry::Scan {
+            left,
+            scan: Scan::Number {
+                scan: NumberScan::Start(Want::Integer { is_negative: false }),
+                taker,
+            },
+        } => skim_constant(s, budget, left, taker),
         other => {
             enter(s, other)?;
             Ok(())
@@ -244,15 +259,23 @@ fn skim_entry(s: &mut State, budget: u64, entry: Entry) -> Result<(), AllocError
     }
 }
 
-/// Whether a definition's body is on top of the stack.
-fn is_in_body(s: &State) -> bool {
-    matches!(
-        s.entries.at(0),
-        Some(Entry::Scan {
-            scan: Scan::Assign(AssignScan::Body(_)),
-            ..
-        })
-    )
+/// Whether a scan is on top of the stack that takes many tokens at once: a definition's body, a text that isn't taken, or
+/// an integer that begins.
+fn takes_many(s: &State) -> bool {
+    match s.entries.at(0) {
+        Some(Entry::Scan { scan, .. }) => match scan {
+            Scan::Assign(AssignScan::Body(_)) => true,
+            Scan::Expansion(ExpansionScan::Skip(_)) => true,
+            Scan::Number { scan, .. } => {
+                matches!(
+                    scan,
+                    NumberScan::Start(Want::Integer { is_negative: false })
+                )
+            }
+            _ => false,
+        },
+        _ => false,
+    }
 }
 
 /// Makes the turns in which a scan on top of the stack gathers tokens, as many as are made many at once.
@@ -262,7 +285,7 @@ fn skim_scan(s: &mut State, budget: u64) -> Result<(), AllocError>
     ensures runs { OnOk result (Runs budget (mouth_at Source.Reading (mouth_of s.old)) (mouth_at Source.Reading (mouth_of s.new))) }
     ensures within { OnOk result ((mouth_of s.new).spent ≤ budget) }
 {
-    if !is_in_body(s) {
+    if !takes_many(s) {
         return Ok(());
     }
     match s.entries.pop() {
