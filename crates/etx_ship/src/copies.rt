@@ -9,8 +9,8 @@ use std::alloc::AllocError;
 /// The boxes of leaders: where the first begins, in sp, how far the next is behind it, and how many there are.
 #[derive(Clone, Copy)]
 pub(crate) struct Repeats {
-    pub first: i128,
-    pub step: i128,
+    pub first: i64,
+    pub step: i64,
     pub count: u64,
 }
 
@@ -38,7 +38,7 @@ fn spread_of(room: u64, size: u64) -> u64
 }
 
 // How far the first box stands behind the beginning of the room, which is so far behind the edge.
-fn offset_of(kind: LeaderKind, behind: i128, room: u64, size: u64) -> u64
+fn offset_of(kind: LeaderKind, behind: i64, room: u64, size: u64) -> u64
     requires some { 0 < size }
     requires small { size < 2 ^ 33 }
     requires short { room < 2 ^ 62 }
@@ -46,7 +46,7 @@ fn offset_of(kind: LeaderKind, behind: i128, room: u64, size: u64) -> u64
     ensures small { result ≤ room + size }
 {
     match kind {
-        LeaderKind::Aligned => behind.rem_euclid(size as i128) as u64,
+        LeaderKind::Aligned => behind.rem_euclid(size as i64) as u64,
         LeaderKind::Centered => room % size / 2,
         LeaderKind::Expanded => {
             let inner = (room / size).saturating_sub(1) * spread_of(room, size);
@@ -83,8 +83,8 @@ fn count_of(room: u64, first: u64, step: u64) -> u64
 
 fn fit(
     kind: LeaderKind,
-    behind: i128,
-    from: i128,
+    behind: i64,
+    from: i64,
     room: u64,
     size: u64,
 ) -> Result<Repeats, AllocError>
@@ -96,8 +96,8 @@ fn fit(
     let before = offset_of(kind, behind, room, size);
     let step = distance_of(kind, room, size);
     Ok(Repeats {
-        first: plus(from, before as i128)?,
-        step: step as i128,
+        first: plus(from, before as i64)?,
+        step: step as i64,
         count: count_of(room, before + size, step),
     })
 }
@@ -109,9 +109,9 @@ fn fit(
 #[tactic(auto, unfolding(crate::specs::Copies::copies_of))]
 pub(crate) fn copies(
     kind: LeaderKind,
-    edge: i128,
-    from: i128,
-    gap: i128,
+    edge: i64,
+    from: i64,
+    gap: i64,
     size: i64,
 ) -> Result<Repeats, AllocError>
     requires { size <ℤ pos (2 ^ 33) }
@@ -122,13 +122,7 @@ pub(crate) fn copies(
         if room >= 4_611_686_018_427_387_904 {
             return Err(AllocError);
         }
-        fit(
-            kind,
-            minus(edge, from)?,
-            from,
-            room as u64,
-            size.unsigned_abs(),
-        )
+        fit(kind, minus(edge, from)?, from, room, size.unsigned_abs())
     } else {
         Ok(Repeats {
             first: from,

@@ -36,10 +36,28 @@ pub(crate) fn draw_boxed(pen: &mut Pen<'_>, it: &BoxNode, at: Point) -> Result<(
     pen.close()
 }
 
-// Draws an item of a list, and gives the place of the next one.
+// Draws an item of a list, and gives the place of the next one. Most items are characters.
+#[inline(always)]
+#[cycle(drawing)]
+#[tactic(auto, unfolding(crate::specs::Places::node_moves))]
+fn draw_node(pen: &mut Pen<'_>, node: &Node, frame: &Frame, spot: Spot) -> Result<Spot, AllocError>
+    ensures { IfOk result (λ next. Draws (node_moves node.now frame.now spot) pen.old pen.new next) }
+{
+    if let Node::Char { font, code, size } = node {
+        return draw_letter(pen, *font, *code, size, frame, spot);
+    }
+    draw_any_node(pen, node, frame, spot)
+}
+
+// The same, whatever the item is.
 #[cycle(drawing)]
 #[tactic(auto, unfolding(crate::specs::Places::node_moves, crate::specs::Places::leader_leads, crate::specs::Places::box_shown))]
-fn draw_node(pen: &mut Pen<'_>, node: &Node, frame: &Frame, spot: Spot) -> Result<Spot, AllocError>
+fn draw_any_node(
+    pen: &mut Pen<'_>,
+    node: &Node,
+    frame: &Frame,
+    spot: Spot,
+) -> Result<Spot, AllocError>
     ensures { IfOk result (λ next. Draws (node_moves node.now frame.now spot) pen.old pen.new next) }
 {
     match node {
@@ -50,7 +68,7 @@ fn draw_node(pen: &mut Pen<'_>, node: &Node, frame: &Frame, spot: Spot) -> Resul
             size,
             ..
         } => draw_letter(pen, *font, *code, size, frame, spot),
-        Node::Kern { width, .. } => spot.moved(*width as i128),
+        Node::Kern { width, .. } => spot.moved(*width as i64),
         Node::Glue(glue) => spot.glued(&frame.set, glue),
         Node::Leaders { glue, leader } => {
             let end = spot.glued(&frame.set, glue)?;
@@ -64,7 +82,7 @@ fn draw_node(pen: &mut Pen<'_>, node: &Node, frame: &Frame, spot: Spot) -> Resul
             if frame.vertical {
                 Ok(spot)
             } else {
-                spot.moved(*width as i128)
+                spot.moved(*width as i64)
             }
         }
         Node::Penalty(_)
@@ -78,6 +96,7 @@ fn draw_node(pen: &mut Pen<'_>, node: &Node, frame: &Frame, spot: Spot) -> Resul
 }
 
 // Where an item of a list stands.
+#[inline(always)]
 fn point_of(frame: &Frame, spot: Spot) -> Result<Point, AllocError>
     ensures { IfOk result (λ at. at ≡ here frame.now spot) }
 {
@@ -95,6 +114,7 @@ fn point_of(frame: &Frame, spot: Spot) -> Result<Point, AllocError>
     }
 }
 
+#[inline(always)]
 #[tactic(auto, unfolding(crate::specs::Places::letter_step))]
 fn draw_letter(
     pen: &mut Pen<'_>,
@@ -111,24 +131,24 @@ fn draw_letter(
     }
     let at = point_of(frame, spot)?;
     pen.letter(font, code, size, at)?;
-    spot.moved(size.width as i128)
+    spot.moved(size.width as i64)
 }
 
 /// The sizes of a rule, none of which runs.
 #[derive(Clone, Copy)]
 pub(crate) struct Solid {
-    pub width: i128,
-    pub height: i128,
-    pub depth: i128,
+    pub width: i64,
+    pub height: i64,
+    pub depth: i64,
 }
 
 // A size that runs is that of the box around it.
-fn size_of(around: i32, size: Option<i32>) -> i128
+fn size_of(around: i32, size: Option<i32>) -> i64
     ensures { result ≡ size_or around size }
 {
     match size {
-        Some(size) => size as i128,
-        None => around as i128,
+        Some(size) => size as i64,
+        None => around as i64,
     }
 }
 
@@ -146,7 +166,7 @@ pub(crate) fn solid_of(size: &RuleSize, frame: &Frame) -> Solid
 }
 
 // Whether a rule has a size.
-fn is_solid(thick: i128, width: i128) -> bool
+fn is_solid(thick: i64, width: i64) -> bool
     ensures { result ≡ (is_positive thick && is_positive width) }
 {
     thick > 0 && width > 0
@@ -247,10 +267,10 @@ fn is_empty_box(it: &BoxNode) -> bool
 
 // The height and the depth of a box together.
 #[tactic(auto, unfolding(crate::specs::Places::box_shown))]
-fn tall_of(it: &BoxNode) -> i128
+fn tall_of(it: &BoxNode) -> i64
     ensures { result ≡ (box_shown it.now).height +ℤ (box_shown it.now).depth }
 {
-    it.height as i128 + it.depth as i128
+    it.height as i64 + it.depth as i64
 }
 
 // Where a box stands in a vertical list.
@@ -259,8 +279,8 @@ fn lower_point(it: &BoxNode, frame: &Frame, spot: Spot) -> Result<Point, AllocEr
     ensures { IfOk result (λ at. at ≡ record { h = frame.now.side +ℤ (box_shown it.now).shift; v = place spot +ℤ (box_shown it.now).height }) }
 {
     Ok(Point {
-        h: plus(frame.side, it.shift as i128)?,
-        v: plus(spot.place()?, it.height as i128)?,
+        h: plus(frame.side, it.shift as i64)?,
+        v: plus(spot.place()?, it.height as i64)?,
     })
 }
 
@@ -334,9 +354,9 @@ fn draw_beside(
 {
     let at = Point {
         h: spot.place()?,
-        v: plus(frame.side, it.shift as i128)?,
+        v: plus(frame.side, it.shift as i64)?,
     };
-    let next = spot.moved(it.width as i128)?;
+    let next = spot.moved(it.width as i64)?;
     draw_any(pen, it, at)?;
     Ok(next)
 }

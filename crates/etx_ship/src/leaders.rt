@@ -137,8 +137,8 @@ fn draw_copy(pen: &mut Pen<'_>, it: &BoxNode, frame: &Frame, row: Repeats) -> Re
 {
     if frame.vertical {
         let at = Point {
-            h: plus(frame.side, it.shift as i128)?,
-            v: plus(row.first, it.height as i128)?,
+            h: plus(frame.side, it.shift as i64)?,
+            v: plus(row.first, it.height as i64)?,
         };
         pen.go_right(at.h)?;
         pen.go_down(at.v)?;
@@ -146,7 +146,7 @@ fn draw_copy(pen: &mut Pen<'_>, it: &BoxNode, frame: &Frame, row: Repeats) -> Re
     } else {
         let at = Point {
             h: row.first,
-            v: plus(frame.side, it.shift as i128)?,
+            v: plus(frame.side, it.shift as i64)?,
         };
         pen.go_down(at.v)?;
         pen.go_right(at.h)?;

@@ -124,8 +124,8 @@ fn origin(b: &BoxNode, offset: (i32, i32)) -> Point
     ensures { result ≡ record { h = offset.0; v = b.now.height +ℤ offset.1 } }
 {
     Point {
-        h: offset.0 as i128,
-        v: b.height as i128 + offset.1 as i128,
+        h: offset.0 as i64,
+        v: b.height as i64 + offset.1 as i64,
     }
 }
 

@@ -2,9 +2,11 @@
 ghost use Rattle.std.specs.Prelude.{◌≡◌, ◌≤ℤ◌, ◌-ℤ◌, ℤ, pos, negsuc, false, true, ◌++◌, [], length, replicate, slice_index_or, slice_set, slice_get, IfOk, OnOk, Some};
 ghost use Rattle.std.specs.Option.{option_copied};
 ghost use Rattle.std.specs.Int.{w32};
-ghost use Rattle.etx_ship.specs.Hands.{wrote_command, gone_right, gone_down, reached, with_font, first_hand, with_letter, with_letter_of, with_bar, with_block, with_note, opened, closed};
+ghost use Rattle.etx_ship.specs.Hands.{wrote_command, gone_right, gone_down, reached, with_font, first_hand, with_letter, with_letter_of, put_at, with_bar, with_block, with_note, opened, closed};
 ghost use Rattle.etx_ship.specs.Pages.{fresh};
-ghost use Rattle.etx_ship.specs.Pens.{is_chosen, is_used, definition_of};
+ghost use Rattle.etx_ship.specs.Pens.{is_chosen, is_used, definition_of, right_of};
+ghost use Rattle.etx_dvi.specs.Commands.{bytes_of};
+ghost use Rattle.etx_dvi.specs.declared.command.Dvi.TheVariants.{SetChar};
 
 use crate::place::{Extent, Point, minus};
 use crate::state::DviFont;
@@ -56,6 +58,18 @@ pub(crate) fn definition(alloc: Global, number: u8, font: &DviFont) -> Result<Dv
         design_size: font.design_size,
         name,
     })
+}
+
+// The bytes of a character, at once.
+#[inline(always)]
+fn add_character(alloc: Global, code: u8, out: &mut Vec<u8>) -> Result<(), AllocError>
+    ensures { OnOk result (out.new.items ≡ out.old.items ++ bytes_of (SetChar code)) }
+{
+    if code < 128 {
+        out.push(code)?;
+        return Ok(());
+    }
+    put(alloc, &Dvi::SetChar(code), out)
 }
 
 fn add_pushes(out: &mut Vec<u8>, count: u64) -> Result<(), AllocError>
@@ -126,12 +140,12 @@ impl<'a> Pen<'a> {
 
     /// Goes to a place across.
     #[tactic(auto, unfolding(crate::specs::Hands::gone_right, crate::specs::Hands::wrote_command, crate::specs::Hands::inked))]
-    pub(crate) fn go_right(&mut self, h: i128) -> Result<(), AllocError>
+    pub(crate) fn go_right(&mut self, h: i64) -> Result<(), AllocError>
         ensures { OnOk result (self.new ≡ gone_right h self.old) }
     {
         let by = minus(h, self.at.h)?;
         if by != 0 {
-            self.write(&Dvi::Right(within_32_bits(by)))?;
+            self.write(&Dvi::Right(within_32_bits(by as i128)))?;
         }
         self.at.h = h;
         Ok(())
@@ -139,12 +153,12 @@ impl<'a> Pen<'a> {
 
     /// Goes to a place down.
     #[tactic(auto, unfolding(crate::specs::Hands::gone_down, crate::specs::Hands::wrote_command, crate::specs::Hands::inked))]
-    pub(crate) fn go_down(&mut self, v: i128) -> Result<(), AllocError>
+    pub(crate) fn go_down(&mut self, v: i64) -> Result<(), AllocError>
         ensures { OnOk result (self.new ≡ gone_down v self.old) }
     {
         let by = minus(v, self.at.v)?;
         if by != 0 {
-            self.write(&Dvi::Down(within_32_bits(by)))?;
+            self.write(&Dvi::Down(within_32_bits(by as i128)))?;
         }
         self.at.v = v;
         Ok(())
@@ -201,7 +215,42 @@ impl<'a> Pen<'a> {
         Ok(())
     }
 
+    // Whether a character of this font at this place needs nothing before it.
+    #[inline(always)]
+    fn is_ready(&self, number: u8, at: Point) -> bool
+        ensures at { result ≡ true → self.now.pen.at ≡ at }
+        ensures font { result ≡ true → self.now.pen.font ≡ Some number }
+        ensures waiting { result ≡ true → self.now.ink.waiting ≡ 0 }
+    {
+        if self.at.h != at.h {
+            return false;
+        }
+        if self.at.v != at.v {
+            return false;
+        }
+        if self.waiting != 0 {
+            return false;
+        }
+        match self.font {
+            Some(chosen) => chosen == number,
+            None => false,
+        }
+    }
+
+    // Sets a character of this size, before which nothing is needed.
+    #[inline(always)]
+    fn set_letter(&mut self, code: u8, size: &CharSize) -> Result<(), AllocError>
+        requires { self.old.ink.waiting ≡ 0 }
+        ensures { OnOk result (self.new ≡ put_at (right_of self.old.pen.at size.now.width) (record self.old { ink = record { out = self.old.ink.out ++ bytes_of (SetChar code); waiting = 0 } })) }
+    {
+        let next = self.at.right_of(size.width as i64)?;
+        add_character(self.alloc, code, &mut self.out)?;
+        self.at = next;
+        Ok(())
+    }
+
     /// Sets a character of this size. One whose font isn't loaded writes nothing.
+    #[inline(always)]
     #[tactic(auto, unfolding(crate::specs::Hands::with_letter))]
     pub(crate) fn letter(
         &mut self,
@@ -218,6 +267,7 @@ impl<'a> Pen<'a> {
         }
     }
 
+    #[inline(always)]
     fn letter_of(
         &mut self,
         font: &DviFont,
@@ -228,7 +278,24 @@ impl<'a> Pen<'a> {
     ) -> Result<(), AllocError>
         ensures { OnOk result (self.new ≡ with_letter_of (Some font.now) number code size.now.width at self.old) }
     {
-        let next = at.right_of(size.width as i128)?;
+        if self.is_ready(number, at) {
+            return self.set_letter(code, size);
+        }
+        self.letter_behind(font, number, code, size, at)
+    }
+
+    // Sets a character behind all that it needs before it.
+    fn letter_behind(
+        &mut self,
+        font: &DviFont,
+        number: u8,
+        code: u8,
+        size: &CharSize,
+        at: Point,
+    ) -> Result<(), AllocError>
+        ensures { OnOk result (self.new ≡ with_letter_of (Some font.now) number code size.now.width at self.old) }
+    {
+        let next = at.right_of(size.width as i64)?;
         self.reach(at)?;
         self.choose(number, font)?;
         self.write(&Dvi::SetChar(code))?;
@@ -244,8 +311,8 @@ impl<'a> Pen<'a> {
         let next = at.right_of(size.width)?;
         self.reach(at)?;
         let rule = Dvi::SetRule {
-            height: within_32_bits(size.height),
-            width: within_32_bits(size.width),
+            height: within_32_bits(size.height as i128),
+            width: within_32_bits(size.width as i128),
         };
         self.write(&rule)?;
         self.at = next;
@@ -259,8 +326,8 @@ impl<'a> Pen<'a> {
     {
         self.reach(at)?;
         let rule = Dvi::PutRule {
-            height: within_32_bits(size.height),
-            width: within_32_bits(size.width),
+            height: within_32_bits(size.height as i128),
+            width: within_32_bits(size.width as i128),
         };
         self.write(&rule)
     }

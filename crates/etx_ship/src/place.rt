@@ -10,15 +10,15 @@ use std::alloc::AllocError;
 /// A place of a page.
 #[derive(Clone, Copy)]
 pub(crate) struct Point {
-    pub h: i128,
-    pub v: i128,
+    pub h: i64,
+    pub v: i64,
 }
 
 /// The sizes of a rule.
 #[derive(Clone, Copy)]
 pub(crate) struct Extent {
-    pub height: i128,
-    pub width: i128,
+    pub height: i64,
+    pub width: i64,
 }
 
 /// A box that is being shipped: its sizes, how its glue is set, and where it stands.
@@ -30,25 +30,26 @@ pub(crate) struct Frame {
     pub depth: i32,
     pub set: GlueSet,
     /// Where its list begins: its left edge, or in a vertical box its upper one.
-    pub edge: i128,
+    pub edge: i64,
     /// The baseline of a horizontal box, or the left edge of a vertical one.
-    pub side: i128,
+    pub side: i64,
 }
 
 /// How far the list of a box has come.
 #[derive(Clone, Copy)]
 pub(crate) struct Spot {
     /// Where the next item would begin, had all glue its natural size.
-    pub natural: i128,
+    pub natural: i64,
     /// The stretch of the governing order up to here, or where the box shrinks its shrink with a minus sign.
     pub total: i64,
     /// By how much that sets the glue up to here: the item begins so much behind `natural`.
     pub set: i64,
 }
 
-/// A sum of places. One that passes 127 bits is refused as memory is. A box puts its items, at most 2^30, within 2^63 sp of
-/// its own place, so boxes would have to be nested 2^64 deep for such a place, and no memory holds them.
-pub(crate) fn plus(a: i128, b: i128) -> Result<i128, AllocError>
+/// A sum of places. One that passes 63 bits is refused as memory is. No node moves what follows by 2^33 sp, so 2^30 nodes
+/// at least, of 32 bytes each, stand before such a place.
+#[inline(always)]
+pub(crate) fn plus(a: i64, b: i64) -> Result<i64, AllocError>
     ensures { IfOk result (λ sum. sum ≡ a +ℤ b) }
 {
     match a.checked_add(b) {
@@ -58,7 +59,8 @@ pub(crate) fn plus(a: i128, b: i128) -> Result<i128, AllocError>
 }
 
 /// A difference of places, refused as [`plus`] is.
-pub(crate) fn minus(a: i128, b: i128) -> Result<i128, AllocError>
+#[inline(always)]
+pub(crate) fn minus(a: i64, b: i64) -> Result<i64, AllocError>
     ensures { IfOk result (λ rest. rest ≡ a -ℤ b) }
 {
     match a.checked_sub(b) {
@@ -68,6 +70,7 @@ pub(crate) fn minus(a: i128, b: i128) -> Result<i128, AllocError>
 }
 
 // A sum of stretch or shrink, refused as [`plus`] is. The at most 2^30 items of a list have none beyond 63 bits.
+#[inline(always)]
 fn sum_of(a: i64, b: i64) -> Result<i64, AllocError>
     ensures { IfOk result (λ sum. sum ≡ a +ℤ b) }
 {
@@ -79,7 +82,8 @@ fn sum_of(a: i64, b: i64) -> Result<i64, AllocError>
 
 impl Point {
     /// The place behind something of this width.
-    pub(crate) fn right_of(self, width: i128) -> Result<Point, AllocError>
+    #[inline(always)]
+    pub(crate) fn right_of(self, width: i64) -> Result<Point, AllocError>
         ensures { IfOk result (λ at. at ≡ right_of self width) }
     {
         Ok(Point {
@@ -90,18 +94,18 @@ impl Point {
 }
 
 // Where the list of a box begins.
-fn edge_of(it: &BoxNode, at: Point) -> Result<i128, AllocError>
+fn edge_of(it: &BoxNode, at: Point) -> Result<i64, AllocError>
     ensures { IfOk result (λ edge. edge ≡ (if it.now.vertical then at.v -ℤ it.now.height else at.h)) }
 {
     if it.vertical {
-        minus(at.v, it.height as i128)
+        minus(at.v, it.height as i64)
     } else {
         Ok(at.h)
     }
 }
 
 // Beside which place its list stands.
-fn side_of(it: &BoxNode, at: Point) -> i128
+fn side_of(it: &BoxNode, at: Point) -> i64
     ensures { result ≡ (if it.now.vertical then at.h else at.v) }
 {
     if it.vertical { at.h } else { at.v }
@@ -138,14 +142,16 @@ impl Frame {
 }
 
 impl Spot {
-    pub(crate) fn place(self) -> Result<i128, AllocError>
+    #[inline(always)]
+    pub(crate) fn place(self) -> Result<i64, AllocError>
         ensures { IfOk result (λ here. here ≡ place self) }
     {
-        plus(self.natural, self.set as i128)
+        plus(self.natural, self.set)
     }
 
     /// Behind something of a fixed size.
-    pub(crate) fn moved(self, by: i128) -> Result<Spot, AllocError>
+    #[inline(always)]
+    pub(crate) fn moved(self, by: i64) -> Result<Spot, AllocError>
         ensures { IfOk result (λ spot. spot ≡ moved by self) }
     {
         Ok(Spot {
@@ -162,7 +168,7 @@ impl Spot {
     {
         let total = sum_of(self.total, pull(set, glue))?;
         Ok(Spot {
-            natural: plus(self.natural, glue.width as i128)?,
+            natural: plus(self.natural, glue.width as i64)?,
             total,
             set: growth(set, total),
         })

@@ -4,6 +4,7 @@ pub mod Ending
 pub mod HeaderSizes
 pub mod Knowing
 pub mod Loops
+pub mod Merging
 pub mod Passing
 pub mod Plain
 pub mod Programs

@@ -1,5 +1,7 @@
 //! The items of a word that no ligature has touched.
-ghost use Rattle.std.specs.Prelude.{◌≡◌, ◌∷◌, [], MatchOption};
+ghost use Rattle.std.specs.Prelude.{◌≡◌, ◌∷◌, [], Some, MatchOption};
+ghost use Rattle.etx_matter.specs.declared.font.LigItem.TheVariants.{Glyph};
+ghost use Rattle.etx_tfm.specs.declared.piece.Piece.TheVariants.{Letter};
 ghost use Rattle.etx_tfm.specs.Machine.{between, is_end, next_item};
 ghost use Rattle.etx_tfm.specs.Cleans.{letters_in};
 
@@ -40,6 +42,7 @@ impl<'a> Coming<'a> {
     }
 
     /// Takes the first item.
+    #[inline(always)]
     pub fn pop(&mut self) -> Option<Piece>
         ensures { MatchOption result
             ((self.old ≡ []) × (self.new ≡ self.old))
@@ -73,7 +76,29 @@ impl<'a> Coming<'a> {
         }
     }
 
+    /// Takes the first item where it is a letter and another one follows: the codes of the two.
+    #[inline(always)]
+    pub fn pop_letter(&mut self) -> Option<(u8, u8)>
+        ensures { MatchOption result
+            (self.new ≡ self.old)
+            (λ codes. (self.old ≡ Letter codes.0 ∷ self.new) × (next_item self.new ≡ Some (Glyph codes.1))) }
+    {
+        match self.left {
+            Neighbour::Boundary | Neighbour::Character(_) => return None,
+            Neighbour::Nothing => {}
+        }
+        let [code, behind @ ..] = self.letters else {
+            return None;
+        };
+        let [next, ..] = behind else {
+            return None;
+        };
+        self.letters = behind;
+        Some((*code, *next))
+    }
+
     /// How a program sees the first item.
+    #[inline(always)]
     pub fn next_item(&self) -> Option<LigItem>
         ensures { result ≡ next_item self.now }
     {
@@ -93,6 +118,7 @@ impl<'a> Coming<'a> {
     }
 
     /// Whether nothing is left but the right edge.
+    #[inline(always)]
     pub fn is_end(&self) -> bool
         ensures { result ≡ is_end self.now }
     {

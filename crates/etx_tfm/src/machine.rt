@@ -10,12 +10,14 @@ use etx_matter::{
 };
 use std::alloc::{AllocError, Global};
 
+#[inline(always)]
 fn number_at(numbers: &Listed<i32>, place: usize) -> i32
     ensures { result ≡ number_at numbers.now place }
 {
     numbers.at(place).copied().unwrap_or(0)
 }
 
+#[inline(always)]
 fn size_by(dimensions: &Dimensions, info: CharInfo) -> CharSize
     ensures { result ≡ size_by dimensions.now info }
 {
@@ -27,6 +29,7 @@ fn size_by(dimensions: &Dimensions, info: CharInfo) -> CharSize
     }
 }
 
+#[inline(always)]
 fn size_of(font: &FontInfo, code: u8) -> CharSize
     ensures { result ≡ size_of font.now code }
 {
@@ -42,6 +45,7 @@ fn size_of(font: &FontInfo, code: u8) -> CharSize
 }
 
 /// The edges of which no node has told when an item is written.
+#[inline(always)]
 fn edges_behind(edges: Edges, ends: bool, piece: &Piece) -> Edges
     ensures { result ≡ edges_behind edges ends piece.now }
 {
@@ -54,7 +58,17 @@ fn edges_behind(edges: Edges, ends: bool, piece: &Piece) -> Edges
     }
 }
 
+/// Writes a letter.
+#[inline(always)]
+pub fn write_letter(font: &Font, code: u8, out: &mut Nodes) -> Result<(), AllocError>
+    ensures ok { OnOk result (out.new ≡ out.old ++ char_of font.now code ∷ []) }
+    ensures err { OnErr result (out.new ≡ out.old) }
+{
+    out.push(letter_node(font, code))
+}
+
 /// The node of a letter.
+#[inline(always)]
 fn letter_node(font: &Font, code: u8) -> Node
     ensures { result ≡ char_of font.now code }
 {
@@ -86,6 +100,7 @@ fn write_made(
 }
 
 /// Writes an item, which is the last one of the word if it `ends` it.
+#[inline(always)]
 fn write_node(
     alloc: Global,
     font: &Font,
@@ -99,7 +114,7 @@ fn write_node(
 {
     match piece {
         Piece::LeftEdge | Piece::RightEdge | Piece::Beside(_) => Ok(()),
-        Piece::Letter(code) => out.push(letter_node(font, code)),
+        Piece::Letter(code) => write_letter(font, code, out),
         Piece::Made { code, letters } => write_made(
             alloc,
             font,
@@ -115,6 +130,7 @@ fn write_node(
 }
 
 /// Writes the item that the cursor passes.
+#[inline(always)]
 pub fn write(
     alloc: Global,
     font: &Font,

@@ -1,5 +1,5 @@
 //! The items of the list that ligatures rewrite.
-ghost use Rattle.std.specs.Prelude.{◌≡◌, ◌++◌, OnOk, IfOk};
+ghost use Rattle.std.specs.Prelude.{◌≡◌, ◌++◌, ◌∷◌, [], false, OnOk, IfOk};
 ghost use Rattle.etx_matter.specs.Ligatures.{action_between};
 ghost use Rattle.etx_tfm.specs.Machine.{boundary_if, item_of, letters_of, is_left_edge, is_right_edge, letters_unless, edges_with, made_of};
 ghost use Rattle.etx_tfm.specs.Cleans.{holds_end};
@@ -47,6 +47,7 @@ pub enum Piece {
 
 impl Piece {
     /// How programs see it.
+    #[inline(always)]
     pub fn item(&self) -> LigItem
         ensures { result ≡ item_of self.now }
     {
@@ -58,6 +59,7 @@ impl Piece {
         }
     }
 
+    #[inline(always)]
     fn is_left_edge(&self) -> bool
         ensures { result ≡ is_left_edge self.now }
     {
@@ -68,6 +70,7 @@ impl Piece {
     }
 
     /// Whether it is what stands behind the last character.
+    #[inline(always)]
     pub fn is_right_edge(&self) -> bool
         ensures { result ≡ is_right_edge self.now }
     {
@@ -85,6 +88,17 @@ impl Piece {
             Piece::LeftEdge | Piece::Beside(_) | Piece::Letter(_) => true,
             Piece::RightEdge => false,
             Piece::Made { letters, .. } => !letters.is_empty(),
+        }
+    }
+
+    /// The letters for which it stands, in the memory in which it has them.
+    fn into_letters(self, alloc: Global) -> Result<Bytes, AllocError>
+        ensures { IfOk result (λ letters. letters ≡ letters_of self) }
+    {
+        match self {
+            Piece::LeftEdge | Piece::RightEdge | Piece::Beside(_) => Ok(Bytes::new(alloc)),
+            Piece::Letter(code) => one_letter(alloc, code),
+            Piece::Made { letters, .. } => Ok(letters),
         }
     }
 
@@ -128,6 +142,24 @@ impl Edges {
             right: self.right || !at_left && next.is_right_edge(),
         }
     }
+}
+
+// A letter, with room for those of a common ligature.
+fn one_letter(alloc: Global, code: u8) -> Result<Bytes, AllocError>
+    ensures { IfOk result (λ letters. letters ≡ code ∷ []) }
+{
+    let mut letters = Bytes::with_room(alloc, 4)?;
+    letters.push(code)?;
+    Ok(letters)
+}
+
+/// The ligature `code` in the place of two items.
+pub fn merged(alloc: Global, current: Piece, next: &Piece, code: u8) -> Result<Piece, AllocError>
+    ensures { IfOk result (λ it. it ≡ made_of current next.now code false false) }
+{
+    let mut letters = current.into_letters(alloc)?;
+    next.add_letters(&mut letters)?;
+    Ok(Piece::Made { code, letters })
 }
 
 /// The ligature `code` between two items, each of which stays or not.

@@ -5,6 +5,7 @@ ghost use Rattle.etx_matter.specs.Ligatures.{sent_on, tag_program, character_pro
 
 use etx_matter::{CharTag, FontInfo, LigItem, LigStep, PairAction};
 
+#[inline(always)]
 fn sent_on(place: u16, step: Option<LigStep>) -> u16
     ensures { result ≡ sent_on place step }
 {
@@ -14,6 +15,7 @@ fn sent_on(place: u16, step: Option<LigStep>) -> u16
     }
 }
 
+#[inline(always)]
 fn tag_program(font: &FontInfo, tag: CharTag) -> Option<u16>
     ensures { result ≡ tag_program font.now tag }
 {
@@ -27,6 +29,7 @@ fn tag_program(font: &FontInfo, tag: CharTag) -> Option<u16>
 }
 
 /// The step at which the program begins of what stands on the left.
+#[inline(always)]
 fn program_of(font: &FontInfo, left: LigItem) -> Option<u16>
     ensures { result ≡ program_of font.now left }
 {
@@ -46,6 +49,7 @@ fn program_of(font: &FontInfo, left: LigItem) -> Option<u16>
 }
 
 /// Whether a step for `next` is one for what stands on the right.
+#[inline(always)]
 fn names(font: &FontInfo, next: u8, right: LigItem) -> bool
     ensures { result ≡ names font.now next right }
 {
@@ -59,6 +63,7 @@ fn names(font: &FontInfo, next: u8, right: LigItem) -> bool
 }
 
 #[tactic(auto, unfolding(etx_matter::specs::Ligatures::found_in))]
+#[inline(always)]
 fn found_in(font: &FontInfo, right: LigItem, steps: &[LigStep]) -> Option<PairAction>
     ensures { result ≡ found_in font.now right 0 steps.now }
 {

@@ -1,5 +1,7 @@
 //! The items of a word from the cursor on.
-ghost use Rattle.std.specs.Prelude.{◌≡◌, ◌+◌, ◌-◌, ◌∷◌, ◌==◌, [], MatchOption, OnOk, OnErr};
+ghost use Rattle.std.specs.Prelude.{◌≡◌, ◌+◌, ◌-◌, ◌∷◌, ◌==◌, [], Some, MatchOption, OnOk, OnErr};
+ghost use Rattle.etx_matter.specs.declared.font.LigItem.TheVariants.{Glyph};
+ghost use Rattle.etx_tfm.specs.declared.piece.Piece.TheVariants.{Letter};
 ghost use Rattle.etx_tfm.specs.Machine.{between, is_end, next_item};
 ghost use Rattle.etx_tfm.specs.Cleans.{letters_in};
 
@@ -43,6 +45,7 @@ impl<'a> Rest<'a> {
     }
 
     /// Takes the item at the cursor.
+    #[inline(always)]
     pub fn pop(&mut self) -> Option<Piece>
         ensures { MatchOption result
             ((self.old.items ≡ []) × (self.old.touched ≡ 0) × (self.new ≡ self.old))
@@ -52,6 +55,19 @@ impl<'a> Rest<'a> {
             return Some(piece);
         }
         self.coming.pop()
+    }
+
+    /// Takes the item at the cursor where it is a letter, another one follows, and none of the two is touched: their codes.
+    #[inline(always)]
+    pub fn pop_letter(&mut self) -> Option<(u8, u8)>
+        ensures { MatchOption result
+            (self.new ≡ self.old)
+            (λ codes. (self.old.items ≡ Letter codes.0 ∷ self.new.items) × (next_item self.new.items ≡ Some (Glyph codes.1)) × (self.new.touched ≡ self.old.touched - 1)) }
+    {
+        if self.touched.is_empty() {
+            return self.coming.pop_letter();
+        }
+        None
     }
 
     /// Puts an item at the cursor, which is touched.
@@ -64,6 +80,7 @@ impl<'a> Rest<'a> {
     }
 
     /// How a program sees the item at the cursor.
+    #[inline(always)]
     pub fn next_item(&self) -> Option<LigItem>
         ensures { result ≡ next_item self.now.items }
     {
@@ -75,6 +92,7 @@ impl<'a> Rest<'a> {
     }
 
     /// Whether nothing stands from the cursor on but the right edge.
+    #[inline(always)]
     pub fn is_end(&self) -> bool
         ensures { result ≡ is_end self.now.items }
     {

@@ -1,12 +1,14 @@
 //! Ligatures and kerns of a run of characters, as a list, added to one, and with the places at which the run can be cut.
-ghost use Rattle.std.specs.Prelude.{◌≡◌, ◌+◌, ◌-◌, ◌++◌, ◌∷◌, [], length, if◌then◌else◌, true, Some, IsSome, OnOk, OnErr, IfOk};
+ghost use Rattle.std.specs.Prelude.{◌≡◌, ◌+◌, ◌-◌, min, ◌++◌, ◌∷◌, [], length, if◌then◌else◌, true, Some, IsSome, OnOk, OnErr, IfOk};
 ghost use Rattle.etx_matter.specs.Ligatures.{action_between};
 ghost use Rattle.etx_matter.specs.Soundness.{IsSound};
-ghost use Rattle.etx_tfm.specs.Machine.{no_edges, nodes_of, place, passed, item_if, item_of, next_item, by_next, Begins, Rewrites, between, edged};
+ghost use Rattle.etx_matter.specs.declared.font.LigItem.TheVariants.{Glyph};
+ghost use Rattle.etx_tfm.specs.declared.piece.Piece.TheVariants.{Letter};
+ghost use Rattle.etx_tfm.specs.Machine.{no_edges, nodes_of, kept, made_of, place, passed, item_if, item_of, next_item, by_next, Begins, Rewrites, between, edged};
 ghost use Rattle.etx_tfm.specs.Cleans.{touched_behind, is_clean, letters_in, place_if, Reads};
 
-use crate::machine::{kept, write, write_kern};
-use crate::piece::{Edges, Neighbour, Piece, boundary_if, made_of};
+use crate::machine::{kept, write, write_kern, write_letter};
+use crate::piece::{Edges, Neighbour, Piece, boundary_if, made_of, merged};
 use crate::program::action_between;
 use crate::reading::{CleanPlace, Reading};
 use crate::rest::Rest;
@@ -41,6 +43,7 @@ fn pass(
 }
 
 /// Puts an item at the cursor, if it stays.
+#[inline(always)]
 fn put_if(stays: bool, piece: Piece, rest: &mut Rest) -> Result<(), AllocError>
     ensures items { OnOk result (rest.new.items ≡ item_if stays piece ++ rest.old.items) }
     ensures touched { OnOk result (rest.new.touched ≡ rest.old.touched + (if stays then 1 else 0)) }
@@ -78,13 +81,36 @@ fn make(
     let Some(next) = rest.pop() else {
         return Ok(());
     };
+    *edges = edges.with_those_of(&current, &next);
+    let stay = kept(making.keeps_current, making.keeps_next);
+    if stay > 0 {
+        make_between(alloc, font, making, current, next, out, edges, rest)
+    } else {
+        rest.push(merged(alloc, current, &next, making.code)?)
+    }
+}
+
+/// Makes a ligature between two items, of which one stays or both do.
+fn make_between(
+    alloc: Global,
+    font: &Font,
+    making: Making,
+    current: Piece,
+    next: Piece,
+    out: &mut Nodes,
+    edges: &mut Edges,
+    rest: &mut Rest,
+) -> Result<(), AllocError>
+    ensures ok { OnOk result (place out.new edges.new rest.new.items ≡ passed font.now (min making.passes (kept making.keeps_current making.keeps_next)) out.old edges.old (item_if making.keeps_current current ++ made_of current next making.code making.keeps_current making.keeps_next ∷ (item_if making.keeps_next next ++ rest.old.items))) }
+    ensures touched { OnOk result (rest.new.touched ≡ rest.old.touched + kept making.keeps_current making.keeps_next + 1 - min making.passes (kept making.keeps_current making.keeps_next)) }
+    ensures begins { Begins out.old out.new }
+{
     let Making {
         code,
         keeps_current,
         keeps_next,
         passes,
     } = making;
-    *edges = edges.with_those_of(&current, &next);
     let made = made_of(alloc, &current, &next, code, keeps_current, keeps_next)?;
     put_if(keeps_next, next, rest)?;
     rest.push(made)?;
@@ -142,7 +168,50 @@ fn step(
     }
 }
 
+/// Does what is to be done between the letter at the cursor and the next item.
+#[inline(always)]
+fn step_letter(
+    alloc: Global,
+    font: &Font,
+    action: Option<PairAction>,
+    code: u8,
+    out: &mut Nodes,
+    edges: &mut Edges,
+    rest: &mut Rest,
+) -> Result<(), AllocError>
+    requires { IsSome (next_item rest.old.items) }
+    ensures ok { OnOk result (place out.new edges.new rest.new.items ≡ by_next font.now out.old edges.old (Letter code) rest.old.items action) }
+    ensures begins { Begins out.old out.new }
+{
+    match action {
+        None => write_letter(font, code, out),
+        Some(PairAction::Kern(kern)) => {
+            write_letter(font, code, out)?;
+            write_kern(font, kern, out)
+        }
+        Some(PairAction::Ligature { .. }) => step(
+            alloc,
+            font,
+            action,
+            Piece::Letter(code),
+            out,
+            edges,
+            rest,
+        ),
+    }
+}
+
+/// What is to be done between two letters.
+#[inline(always)]
+fn action_of(font: &Font, current: u8, next: u8) -> Option<PairAction>
+    ensures action { result ≡ action_between font.now.info (Glyph current) (Glyph next) }
+    ensures sound { IsSound font.now.info }
+{
+    action_between(font.info(), LigItem::Glyph(current), LigItem::Glyph(next))
+}
+
 /// What is to be done between an item and the next one.
+#[inline(always)]
 fn action_at(font: &Font, current: &Piece, next: LigItem) -> Option<PairAction>
     ensures action { result ≡ action_between font.now.info (item_of current.now) next }
     ensures sound { IsSound font.now.info }
@@ -184,6 +253,11 @@ pub fn push_ligkern(
     let mut rest = Rest::new(alloc, chars, boundary_if(left), boundary_if(right));
     let mut edges = no_edges();
     'steps: loop {
+        if let Some((code, behind)) = rest.pop_letter() {
+            let paired = action_of(font, code, behind);
+            step_letter(alloc, font, paired, code, out, &mut edges, &mut rest)?;
+            continue;
+        }
         match rest.pop() {
             None => return Ok(()),
             Some(current) => match rest.next_item() {
@@ -210,7 +284,7 @@ pub fn ligkern(
 ) -> Result<Nodes, AllocError>
     ensures { IfOk result (λ nodes. Rewrites font.now [] no_edges (edged chars.now left right) nodes) }
 {
-    let mut out = Nodes::new(alloc);
+    let mut out = Nodes::with_room(alloc, chars.len())?;
     push_ligkern(alloc, font, chars, left, right, &mut out)?;
     Ok(out)
 }
@@ -262,7 +336,7 @@ pub fn read_run(
 {
     let mut rest = Rest::new(alloc, chars, left, right);
     let mut edges = no_edges();
-    let mut nodes = Nodes::new(alloc);
+    let mut nodes = Nodes::with_room(alloc, chars.len())?;
     let mut places = Listed::new(alloc);
     'steps: loop {
         match rest.pop() {
