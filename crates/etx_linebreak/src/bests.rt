@@ -74,37 +74,25 @@ impl Bests {
         }
     }
 
-    fn with(self, new: Candidate) -> Bests
-        ensures { result ≡ with_in new.class self new }
+    fn take(&mut self, new: Candidate)
+        ensures { self.new ≡ with_in new.class self.old new }
     {
         match new.class {
-            Class::VeryLoose => Bests {
-                very_loose: better(self.very_loose, new),
-                ..self
-            },
-            Class::Loose => Bests {
-                loose: better(self.loose, new),
-                ..self
-            },
-            Class::Decent => Bests {
-                decent: better(self.decent, new),
-                ..self
-            },
-            Class::Tight => Bests {
-                tight: better(self.tight, new),
-                ..self
-            },
+            Class::VeryLoose => self.very_loose = better(self.very_loose, new),
+            Class::Loose => self.loose = better(self.loose, new),
+            Class::Decent => self.decent = better(self.decent, new),
+            Class::Tight => self.tight = better(self.tight, new),
         }
     }
 
-    /// These and what another row gives.
+    /// Takes what another row gives. It changes these in their place, since most rows give nothing.
     #[tactic(auto, unfolding(crate::specs::Rows::with_offer))]
-    pub fn with_offer(self, offer: Option<Candidate>) -> Bests
-        ensures { result ≡ with_offer self offer }
+    pub fn take_offer(&mut self, offer: Option<Candidate>)
+        ensures { self.new ≡ with_offer self.old offer }
     {
         match offer {
-            None => self,
-            Some(new) => self.with(new),
+            None => {}
+            Some(new) => self.take(new),
         }
     }
 

@@ -112,7 +112,7 @@ impl Pass {
         let mut bests = Bests::new();
         for row in group {
             let line = self.measured(break_number, row);
-            bests = bests.with_offer(self.gives(break_number, resort, row, line)?);
+            bests.take_offer(self.gives(break_number, resort, row, line)?);
             if !self.closes(break_number, line) {
                 next.push(*row)?;
             }
